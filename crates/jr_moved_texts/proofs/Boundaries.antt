@@ -263,3 +263,59 @@ in_front all (i ∷ is) at bytes (p ∷ ps) q qs k tiled placed ends = by_place 
         let place = token_place all i is k p (ps ++ q ∷ qs) kind placed in
         this_run ps place.2 same place.1
     by_place false e again = other i.kind refl (λ same. both_ways (i.span.to == q.mark.from) e (eq-eqb i.span.to q.mark.from same)) again
+
+-- ---- from a token on
+
+-- a token stands at a place, with these behind it
+pub record FromToken (all : List ℕ) (at : ℕ) (bytes : List ℕ) (p : Placed Span) (qs : Tokens) : Type 0 where
+  pub front : List ℕ
+  pub rest : List ℕ
+  pub items_there : List Item
+  pub whole : bytes ≡ front ++ rest
+  pub stands : p.mark.from ≡ at + length front
+  pub tiled : Tiled anywhere (at + length front) rest items_there
+  pub placed : placed_of all items_there ≡ p ∷ qs
+
+pub from_token : (all : List ℕ) (items : List Item) (at : ℕ) (bytes : List ℕ) (ps : Tokens) (p : Placed Span) (qs : Tokens) → Tiled anywhere at bytes items → placed_of all items ≡ ps ++ p ∷ qs → FromToken all at bytes p qs
+from_token all [] at bytes [] p qs tiled placed = absurd (no_tokens p qs placed)
+from_token all [] at bytes (r ∷ ps) p qs tiled placed = absurd (no_tokens r (ps ++ p ∷ qs) placed)
+from_token all (i ∷ is) at bytes ps p qs tiled placed = by_kind i.kind refl (λ rs same. from_token all is (at + length tiled.0) tiled.1 rs p qs tiled.4 same)
+  where
+    f : List ℕ
+    f = tiled.0
+
+    Again : Type 0
+    Again = (rs : Tokens) → placed_of all is ≡ rs ++ p ∷ qs → FromToken all (at + length tiled.0) tiled.1 p qs
+
+    further : FromToken all (at + length tiled.0) tiled.1 p qs → FromToken all at bytes p qs
+    further t =
+        let long : at + length (f ++ t.front) ≡ at + length f + length t.front = omega (arith, length-append f t.front) in
+        record {
+          front = f ++ t.front;
+          rest = t.rest;
+          items_there = t.items_there;
+          whole = tiled.2 ∙ ap (λ x. f ++ x) t.whole ∙ sym (append_assoc f t.front t.rest);
+          stands = t.stands ∙ sym long;
+          tiled = subst (λ n. Tiled anywhere n t.rest t.items_there) (sym long) t.tiled;
+          placed = t.placed;
+        }
+
+    nothing : at + length (let none : List ℕ = [] in none) ≡ at
+    nothing = omega arith
+
+    by_run : Again → (of : TokenKind) → i.kind ≡ TokenItem of → (rs : Tokens) → placed_of all (i ∷ is) ≡ rs ++ p ∷ qs → FromToken all at bytes p qs
+    by_run again of e [] h = record {
+      front = [];
+      rest = bytes;
+      items_there = i ∷ is;
+      whole = refl;
+      stands = ap (λ (s : Span). s.from) ((token_place all i is of p qs e h).0) ∙ ap (λ (s : Span). s.from) tiled.3.place ∙ sym nothing;
+      tiled = subst (λ n. Tiled anywhere n bytes (i ∷ is)) (sym nothing) tiled;
+      placed = h;
+    }
+    by_run again of e (r ∷ rs) h = further (again rs (token_place all i is of r (rs ++ p ∷ qs) e h).2)
+
+    by_kind : (of : ItemKind) → i.kind ≡ of → Again → FromToken all at bytes p qs
+    by_kind (TokenItem of) e again = by_run again of e ps placed
+    by_kind Blank e again = further (again ps (sym (placed_blank all i is e) ∙ placed))
+    by_kind Comment e again = further (again ps (sym (placed_comment all i is e) ∙ placed))

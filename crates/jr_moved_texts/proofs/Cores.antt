@@ -1,9 +1,9 @@
 -- Texts that are cut into tokens in front of any other: an identifier, a run that moves, and one in
 -- parentheses.
-use Rattle.std.proofs.Common.{◌≡◌, ◌≢◌, ◌⊎◌, inl, inr, ℕ, ◌==◌, true, false, not, List, [], ◌∷◌, ◌++◌, length, Option, Some, None, refl, sym, ap, ◌∙◌, subst, arith}
+use Rattle.std.proofs.Common.{◌≡◌, ◌≢◌, ◌⊎◌, inl, inr, ℕ, ◌==◌, true, false, Bool, List, [], ◌∷◌, ◌++◌, length, Option, Some, None, refl, sym, ap, ◌∙◌, subst, arith}
 use Rattle.std.specs.Prelude.{codes}
 use Rattle.std.specs.Str.{IsUtf8, chars}
-use Rattle.std.proofs.lemmas.Bool.{both_ways, false≢true, or_parts, eqb-true, not-true, cases_bool}
+use Rattle.std.proofs.lemmas.Bool.{both_ways, or_parts, eqb-true, not-true}
 use Rattle.std.proofs.lemmas.List.{append_assoc}
 use Rattle.std.proofs.lemmas.Str.{chars-append}
 use Rattle.jr_text.specs.declared.spans.Span.{Span}
@@ -16,6 +16,7 @@ use Rattle.jr_lex.specs.declared.items.Symbol.TheVariants.{Dot, Slash, OpenParen
 use Rattle.jr_lex.specs.Characters.{is_digit, first_passes}
 use Rattle.jr_lex.specs.Symbols.{symbol_text}
 use Rattle.jr_lex.specs.Lexemes.{IsLexeme}
+use Rattle.jr_lex.specs.Lexes.{span_of as between}
 use Rattle.jr_lex.specs.Replacing.{IsName}
 use Rattle.jr_lex.specs.Beside.{Piece, join_pieces, goes_on, EndsBefore, token_beside, begins_with_dot}
 use Rattle.jr_lex.specs.Near.{IsCut}
@@ -23,7 +24,7 @@ use Rattle.jr_lex.proofs.ScanMeaning.{no_empty}
 use Rattle.jr_lex.proofs.BesideLaws.{lets_end}
 use Rattle.jr_lex.proofs.OneLexeme.{lexeme_cut, comment_begins}
 use Rattle.jr_lex.proofs.Seams.{paren_ends}
-use Rattle.jr_grammar.specs.Tokens.{Token, word, symbol, token_of_kind, Placed}
+use Rattle.jr_grammar.specs.Tokens.{Token, word, symbol, Placed}
 use Rattle.jr_grammar.specs.Stands.{Tokens, span_of}
 use Rattle.jr_splice.specs.Cutting.{own_token, with_token, tokens_in}
 use Rattle.jr_splice.proofs.Cut.{AreCut, slice_whole}
@@ -47,10 +48,11 @@ no_dot_there [] h = refl
 no_dot_there (c ∷ cs) h = (or_parts (is_digit c) (c == 46) h).1
 
 digit_no_dot : (d : ℕ) → is_digit d ≡ true → (d == 46) ≡ false
-digit_no_dot d h = elim (cases_bool (d == 46)) [
-  | inl dot ↦ absurd (both_ways (is_digit 46) refl (sym (ap is_digit (eqb-true d 46 dot)) ∙ h))
-  | inr other ↦ other
-]
+digit_no_dot d h = by (d == 46) refl
+  where
+    by : (b : Bool) → (d == 46) ≡ b → b ≡ false
+    by true dot = absurd (both_ways (is_digit 46) refl (sym (ap is_digit (eqb-true d 46 dot)) ∙ h))
+    by false other = refl
 
 -- a lexeme of a token that begins with no dot
 lexeme_no_dot : (k : TokenKind) (f rest : List ℕ) → begins_no_dot k ≡ true → IsLexeme (TokenItem k) f → first_passes (λ c. c == 46) (f ++ rest) ≡ false
@@ -65,7 +67,7 @@ lexeme_no_dot (Mark s) (c ∷ cs) rest h l = ap (first_passes (λ x. x == 46)) l
 -- ---- how a text that is cut begins
 
 first_of : (q : Piece) (qs : List Piece) (k : TokenKind) → q.kind ≡ TokenItem k → first_kind (tokens_in (q ∷ qs)) ≡ Some k
-first_of q qs k e = ap (λ x. first_kind (with_token (own_token x q.text) (tokens_in qs))) e ∙ ap (λ (u : TokenKind). Some u) (kind_there q.text _ k)
+first_of q qs k e = ap (λ x. first_kind (with_token (own_token x q.text) (tokens_in qs))) e ∙ ap (λ (u : TokenKind). Some u) (kind_there q.text (between 0 (length q.text)) k)
 
 first_append : (ts us : List Token) (k : TokenKind) → first_kind ts ≡ Some k → first_kind (ts ++ us) ≡ Some k
 first_append [] us k e = absurd (let none : Option TokenKind = None in let no : none ≡ Some k = e in cc)

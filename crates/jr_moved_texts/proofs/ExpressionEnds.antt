@@ -7,7 +7,7 @@ use Rattle.jr_lex.specs.declared.items.Keyword.{Keyword as KeywordName}
 use Rattle.jr_lex.specs.declared.items.Keyword.TheVariants.{Class, New, Super, This, Null}
 use Rattle.jr_lex.specs.declared.items.Keyword.TheVariants as keyword_name
 use Rattle.jr_lex.specs.declared.items.Symbol.{Symbol}
-use Rattle.jr_lex.specs.declared.items.Symbol.TheVariants.{OpenParen, CloseParen, Dot, PlusPlus, MinusMinus, Slash, Equals}
+use Rattle.jr_lex.specs.declared.items.Symbol.TheVariants.{OpenParen, CloseParen, Dot, PlusPlus, MinusMinus, Slash, Semicolon, Equals}
 use Rattle.jr_lex.specs.Beside.{token_beside, begins_with_dot}
 use Rattle.jr_ast.specs.declared.operators.UnOp.{UnOp}
 use Rattle.jr_ast.specs.declared.operators.UnOp.TheVariants.{Plus, Minus, Not}
@@ -81,10 +81,11 @@ pub record Last (ts : List Token) : Type 0 where
   pub kind : TokenKind
   pub is : last_kind ts ≡ Some kind
   pub slash : token_beside kind (Mark Slash) ≡ true
+  pub semicolon : token_beside kind (Mark Semicolon) ≡ true
   pub no_dot : kind ≢ Mark Dot
 
-one_last : (t : Token) → token_beside (kind_of t) (Mark Slash) ≡ true → kind_of t ≢ Mark Dot → Last (t ∷ [])
-one_last t slash no_dot = record { kind = kind_of t; is = refl; slash = slash; no_dot = no_dot }
+one_last : (t : Token) → token_beside (kind_of t) (Mark Slash) ≡ true → token_beside (kind_of t) (Mark Semicolon) ≡ true → kind_of t ≢ Mark Dot → Last (t ∷ [])
+one_last t slash semicolon no_dot = record { kind = kind_of t; is = refl; slash = slash; semicolon = semicolon; no_dot = no_dot }
 
 pub last_some : (xs ys : List Token) (k : TokenKind) → last_kind ys ≡ Some k → last_kind (xs ++ ys) ≡ Some k
 last_some [] ys k e = e
@@ -93,30 +94,30 @@ last_some (x ∷ []) (y ∷ ys) k e = e
 last_some (x ∷ z ∷ xs) ys k e = last_some (z ∷ xs) ys k e
 
 last_append : (xs ys : List Token) → Last ys → Last (xs ++ ys)
-last_append xs ys h = record { kind = h.kind; is = last_some xs ys h.kind h.is; slash = h.slash; no_dot = h.no_dot }
+last_append xs ys h = record { kind = h.kind; is = last_some xs ys h.kind h.is; slash = h.slash; semicolon = h.semicolon; no_dot = h.no_dot }
 
 last_cons : (x : Token) (ys : List Token) → Last ys → Last (x ∷ ys)
 last_cons x ys h = last_append (x ∷ []) ys h
 
 word_last : (x : List ℕ) → Last (word x ∷ [])
-word_last x = one_last (word x) refl (λ e. cc)
+word_last x = one_last (word x) refl refl (λ e. cc)
 
 paren_last : Last (symbol CloseParen ∷ [])
-paren_last = one_last (symbol CloseParen) refl (λ e. cc)
+paren_last = one_last (symbol CloseParen) refl refl (λ e. cc)
 
 args_last : {A : Type 0} (es : tree.Exps A) → Last (args_toks es ++ (symbol CloseParen ∷ []))
 args_last es = last_append (args_toks es) (symbol CloseParen ∷ []) paren_last
 
 pub exp_last : {A : Type 0} (e : tree.Exp A) → Last (toks e)
-exp_last (tree.number m n) = one_last (integer n) refl (λ e. cc)
-exp_last (tree.truth m b) = one_last (keyword (truth_keyword b)) refl (λ e. cc)
-exp_last (tree.null m) = one_last (keyword Null) refl (λ e. cc)
-exp_last (tree.string m s) = one_last (text s) refl (λ e. cc)
+exp_last (tree.number m n) = one_last (integer n) refl refl (λ e. cc)
+exp_last (tree.truth m b) = one_last (keyword (truth_keyword b)) refl refl (λ e. cc)
+exp_last (tree.null m) = one_last (keyword Null) refl refl (λ e. cc)
+exp_last (tree.string m s) = one_last (text s) refl refl (λ e. cc)
 exp_last (tree.name m w) = word_last w.text
 exp_last (tree.field m e w) = last_append (toks e) (symbol Dot ∷ word w.text ∷ []) (last_cons (symbol Dot) (word w.text ∷ []) (word_last w.text))
 exp_last (tree.super_field m w) = last_append (keyword Super ∷ symbol Dot ∷ []) (word w.text ∷ []) (word_last w.text)
-exp_last (tree.this m) = one_last (keyword This) refl (λ e. cc)
-exp_last (tree.class_literal m t) = last_append (type_toks t) (symbol Dot ∷ keyword Class ∷ []) (last_cons (symbol Dot) (keyword Class ∷ []) (one_last (keyword Class) refl (λ e. cc)))
+exp_last (tree.this m) = one_last (keyword This) refl refl (λ e. cc)
+exp_last (tree.class_literal m t) = last_append (type_toks t) (symbol Dot ∷ keyword Class ∷ []) (last_cons (symbol Dot) (keyword Class ∷ []) (one_last (keyword Class) refl refl (λ e. cc)))
 exp_last (tree.call m t w es) = last_append (target_toks t) (word w.text ∷ symbol OpenParen ∷ (args_toks es ++ (symbol CloseParen ∷ []))) (last_append (word w.text ∷ symbol OpenParen ∷ []) (args_toks es ++ (symbol CloseParen ∷ [])) (args_last es))
 exp_last (tree.super_call m w es) = last_append (keyword Super ∷ symbol Dot ∷ word w.text ∷ symbol OpenParen ∷ []) (args_toks es ++ (symbol CloseParen ∷ [])) (args_last es)
 exp_last (tree.create m t es) =
@@ -127,8 +128,8 @@ exp_last (tree.cast m t e) = last_cons (symbol OpenParen) (type_toks t ++ (symbo
 exp_last (tree.unary m o e) = last_cons (symbol (unary_symbol o)) (toks e) (exp_last e)
 exp_last (tree.bump m PreInc e) = last_cons (symbol PlusPlus) (toks e) (exp_last e)
 exp_last (tree.bump m PreDec e) = last_cons (symbol MinusMinus) (toks e) (exp_last e)
-exp_last (tree.bump m PostInc e) = last_append (toks e) (symbol PlusPlus ∷ []) (one_last (symbol PlusPlus) refl (λ e. cc))
-exp_last (tree.bump m PostDec e) = last_append (toks e) (symbol MinusMinus ∷ []) (one_last (symbol MinusMinus) refl (λ e. cc))
+exp_last (tree.bump m PostInc e) = last_append (toks e) (symbol PlusPlus ∷ []) (one_last (symbol PlusPlus) refl refl (λ e. cc))
+exp_last (tree.bump m PostDec e) = last_append (toks e) (symbol MinusMinus ∷ []) (one_last (symbol MinusMinus) refl refl (λ e. cc))
 exp_last (tree.binary m o l r) = last_append (toks l) (symbol (binary_symbol o) ∷ toks r) (last_cons (symbol (binary_symbol o)) (toks r) (exp_last r))
 exp_last (tree.assign m t e) = last_append (toks t) (symbol Equals ∷ toks e) (last_cons (symbol Equals) (toks e) (exp_last e))
 exp_last (tree.compound m o t e) = last_append (toks t) (symbol (compound_symbol o) ∷ toks e) (last_cons (symbol (compound_symbol o)) (toks e) (exp_last e))

@@ -6,3 +6,4 @@ pub mod Spaced
 pub mod ExpressionEnds
 pub mod StepEnds
 pub mod Cores
+pub mod TightRuns
