@@ -7,3 +7,5 @@ pub mod ExpressionEnds
 pub mod StepEnds
 pub mod Cores
 pub mod TightRuns
+pub mod StandingPieces
+pub mod StatementShapes

@@ -16,7 +16,7 @@ use Rattle.jr_lex.specs.Characters.{is_word_start, first_passes}
 use Rattle.jr_lex.specs.Words.{IsWord as IsWordText}
 use Rattle.jr_lex.specs.Symbols.{symbol_text}
 use Rattle.jr_lex.specs.Lexemes.{IsLexeme}
-use Rattle.jr_lex.specs.Lexes.{span_of as between}
+use Rattle.jr_lex.specs.Lexes.{Lexes, span_of as between}
 use Rattle.jr_lex.specs.Replacing.{item_of}
 use Rattle.jr_lex.specs.Beside.{Piece, join_pieces, items_from}
 use Rattle.jr_lex.specs.Near.{IsCut}
@@ -30,8 +30,8 @@ use Rattle.jr_grammar.specs.Stands.{Tokens, last_to}
 use Rattle.jr_splice.specs.Cutting.{own_token, with_token, tokens_in}
 use Rattle.jr_splice.proofs.Cut.{AreCut, own_inside}
 use Rattle.jr_rewrite.specs.Respellings.{Change}
-use Rattle.jr_rewrite.specs.Woven.{MayFront, IsTile, Tiled, Woven, Behind, anything, token_to, WovenFrom, Weaving, Weaves}
-use Rattle.jr_rewrite.proofs.Tiles.{tiled_text}
+use Rattle.jr_rewrite.specs.Woven.{MayFront, Fronted, IsTile, Tiled, Woven, Behind, anything, token_to, WovenFrom, Weaving, Weaves}
+use Rattle.jr_rewrite.proofs.Tiles.{tiled_text, lexes_tiled}
 use Rattle.jr_rewrite.proofs.Skipping.{tiled_further}
 use Rattle.jr_rewrite.proofs.Steps.{Step, stay, cast, swap, close, weave, olds, changes, news, Flow}
 use Rattle.jr_rewrite.proofs.Woven.{rest_woven, steps_weave}
@@ -229,3 +229,12 @@ unchanged bytes more last items pre post e tiled placed here =
     (λ is pre' post' e' t q h. (rest_woven is bytes pre' post' e' t q).woven) items pre post e tiled (placed ∙ sym (append-nil (olds (stays more)) ∙ stays_olds more)) here in
     subst (λ cs. Woven anywhere bytes pre post cs (kinds more)) (append-nil (changes (stays more)) ∙ stays_changes more)
     (subst (Woven anywhere bytes pre post (changes (stays more) ++ [])) (append-nil (news (stays more)) ∙ stays_news more) all)
+
+-- ---- a whole text
+
+fronted_anywhere : (items : List Item) → Fronted anywhere items
+fronted_anywhere [] = tt
+fronted_anywhere (i ∷ is) = (stands_anywhere i.span.to i.kind, fronted_anywhere is)
+
+pub text_tiled : (text : List ℕ) (items : List Item) → Lexes text items → Tiled anywhere 0 text items
+text_tiled text items h = lexes_tiled anywhere text items (fronted_anywhere items) h
