@@ -1,8 +1,8 @@
 -- Extract local: the name in the expression's place, and the declaration in front of the statement.
-use Rattle.std.proofs.Common.{◌≡◌, ◌≢◌, ◌⊎◌, inl, inr, ℕ, ◌+◌, ◌<◌, ◌==◌, true, false, List, [], ◌∷◌, ◌++◌, length, Option, Some, None, refl, sym, ap, ◌∙◌, subst, arith}
+use Rattle.std.proofs.Common.{◌≡◌, ◌≢◌, ◌⊎◌, inl, inr, ℕ, ◌+◌, ◌<◌, ◌≤◌, true, false, List, [], ◌∷◌, ◌++◌, length, Option, Some, None, refl, sym, ap, ◌∙◌, subst, arith}
 use Rattle.std.specs.Prelude.{codes, slice_get}
 use Rattle.std.specs.Str.{chars}
-use Rattle.std.proofs.lemmas.List.{append_assoc, append-nil}
+use Rattle.std.proofs.lemmas.List.{append_assoc, length-append}
 use Rattle.jr_text.specs.declared.spans.Span.{Span}
 use Rattle.jr_lex.specs.declared.items.Item.{Item}
 use Rattle.jr_lex.specs.declared.items.ItemKind.TheVariants.{Token as TokenItem}
@@ -19,7 +19,7 @@ use Rattle.jr_ast.specs.StatementTree as statement
 use Rattle.jr_ast.specs.Marks.{exp_mark, stmt_mark}
 use Rattle.jr_grammar.specs.Tokens.{Token, word, keyword, integer, text as string_token, symbol, Placed, placed_of}
 use Rattle.jr_grammar.specs.Layout.{itself, spans_from}
-use Rattle.jr_grammar.specs.Stands.{Tokens, last_to, span_of, InOrder, Stands}
+use Rattle.jr_grammar.specs.Stands.{Tokens, first_from, last_to, span_of, Stands}
 use Rattle.jr_grammar.specs.Spelling.{toks}
 use Rattle.jr_grammar.specs.ExpressionLayout.{exp_layout}
 use Rattle.jr_grammar.specs.StatementLayout.{stmts_layout}
@@ -28,6 +28,7 @@ use Rattle.jr_members.specs.WrittenLaws.{MembersAreWritten}
 use Rattle.jr_bind.specs.Programs.{File, Program, IsProgram}
 use Rattle.jr_rewrite.specs.Woven.{Fronts, Weaves, anything, token_to}
 use Rattle.jr_rewrite.specs.Rewritten.{change}
+use Rattle.jr_rewrite.proofs.Skipping.{head_same, tail_same}
 use Rattle.jr_rewrite.proofs.Stepping.{IsSome}
 use Rattle.jr_rewrite.proofs.ExpressionSteps.{exp_some}
 use Rattle.jr_local.specs.Bodies.{begins}
@@ -37,13 +38,13 @@ use Rattle.jr_local.specs.Extracted.{named, Found, Fronted}
 use Rattle.jr_moved_texts.specs.Spaces.{kind_of, ending_at, spaced}
 use Rattle.jr_moved_texts.specs.Moved.{EndsWith}
 use Rattle.jr_moved_texts.proofs.Tiling.{text_tiled}
-use Rattle.jr_moved_texts.proofs.Boundaries.{Behind, in_front}
+use Rattle.jr_moved_texts.proofs.Boundaries.{Behind, FromToken, from_token, behind_others}
 use Rattle.jr_moved_texts.proofs.Putting.{MayPut, replaces}
 use Rattle.jr_moved_texts.proofs.Spaced.{Fits, spaced_put}
 use Rattle.jr_moved_texts.proofs.Cores.{name_core}
 use Rattle.jr_moved_texts.proofs.StandingPieces.{PieceStands, piece_stands, ends_there}
-use Rattle.jr_local_texts.proofs.StandingParts.{Among, among_first, among_both, LastIs, ListFront, ElementWithin, stmt_among}
-use Rattle.jr_local_texts.proofs.StandingBodies.{exp_mark_is, element_stands}
+use Rattle.jr_local_texts.proofs.StandingParts.{Among, among_first, LastIs, ListFront, ElementWithin, stmt_among, stmt_last}
+use Rattle.jr_local_texts.proofs.StandingBodies.{exp_mark_is, stmt_mark_is, element_stands}
 
 -- ---- what stands in front of a statement
 
@@ -53,7 +54,7 @@ pub data IsOpen : TokenKind → Type 0 where
   closing : IsOpen (Mark CloseBrace)
   semicolon : IsOpen (Mark Semicolon)
 
-open_front : (k : TokenKind) (ps : Tokens) → EndsWith k ps → LastIs ListFront ps → IsOpen k
+pub open_front : (k : TokenKind) (ps : Tokens) → EndsWith k ps → LastIs ListFront ps → IsOpen k
 open_front k [] e h = absurd e
 open_front k (p ∷ q ∷ ps) e h = open_front k (q ∷ ps) e h
 open_front k (p ∷ []) e h = elim h [
@@ -61,7 +62,7 @@ open_front k (p ∷ []) e h = elim h [
   | inr c ↦ elim c [ inl b ↦ subst IsOpen (sym (ap kind_of b) ∙ e) closing | inr s ↦ subst IsOpen (sym (ap kind_of s) ∙ e) semicolon ]
 ]
 
-never : (text : List ℕ) → first_passes (λ c. false) text ≡ false
+pub never : (text : List ℕ) → first_passes (λ c. false) text ≡ false
 never [] = refl
 never (c ∷ cs) = refl
 
@@ -93,17 +94,63 @@ module _ (p : Program Span) (program : IsProgram itself (λ m b. Unit {0}) p) (w
   pub held : ElementWithin (element x) (placed_of f.text f.items)
   held = element_stands p program written file f.text f.items f.is_text f.lexes x.body x.has x.way
 
-  value_among : Among (Stands (exp_layout x.value)) (placed_of f.text f.items)
-  value_among = among_both (placed_of f.text f.items) held.among (λ qs h. among_first qs h (stmt_among x.value (element x).stmt (element x).way))
+  -- the expression within its list
+  value_among : Among (Stands (exp_layout x.value)) held.among.part
+  value_among = among_first held.among.part held.among.stands (stmt_among x.value (element x).stmt (element x).way)
+
+  value_whole : placed_of f.text f.items ≡ (held.among.front ++ value_among.front) ++ (value_among.part ++ (value_among.back ++ held.among.back))
+  value_whole = held.among.whole ∙ ap (λ y. held.among.front ++ (y ++ held.among.back)) value_among.whole ∙ grouped held.among.front value_among.front value_among.part value_among.back held.among.back
+    where
+      grouped : (a b c d e : Tokens) → a ++ ((b ++ (c ++ d)) ++ e) ≡ (a ++ b) ++ (c ++ (d ++ e))
+      grouped a b c d e = simp append_assoc
 
   pub value_stands : PieceStands f.text f.items x.value
-  value_stands = piece_stands f.text f.items x.value value_among.front value_among.part value_among.back f.lexes value_among.whole value_among.stands
+  value_stands = piece_stands f.text f.items x.value (held.among.front ++ value_among.front) value_among.part (value_among.back ++ held.among.back) f.lexes value_whole value_among.stands
 
   value_mark : exp_mark x.value ≡ span_of (value_stands.first ∷ value_stands.run)
   value_mark = exp_mark_is x.value (value_stands.first ∷ value_stands.run) value_stands.stands
 
   pub value_narrow : (exp_mark x.value).from < (exp_mark x.value).to
   value_narrow = subst (λ (s : Span). s.from < s.to) (sym value_mark) value_stands.narrow
+
+  -- ---- where the statement begins
+
+  -- it begins where the list does, and in the text
+  pub list_begins : (s : statement.Stmt Span) (ss : statement.Stmts Span) (ps : Tokens) → Stands (stmts_layout (statement.more s ss)) ps → (q : Placed Span) × (qs : Tokens) × (ps ≡ q ∷ qs) × ((stmt_mark s).from ≡ q.mark.from)
+  list_begins s ss ps h = by h.front h.whole (stmt_last s h.front h.first) (ap (λ (m : Span). m.from) (stmt_mark_is s h.front h.first))
+    where
+      by : (front : Tokens) → ps ≡ front ++ h.back → LastIs ListFront front → (stmt_mark s).from ≡ first_from front → (q : Placed Span) × (qs : Tokens) × (ps ≡ q ∷ qs) × ((stmt_mark s).from ≡ q.mark.from)
+      by [] e l m = absurd l
+      by (q ∷ qs) e l m = (q, qs ++ h.back, e, m)
+
+  -- the text from the statement on
+  from_stmt : (q : Placed Span) × (qs : Tokens) × (held.among.part ≡ q ∷ qs) × ((stmt_mark (element x).stmt).from ≡ q.mark.from)
+  from_stmt = list_begins (element x).stmt (element x).rest held.among.part held.among.stands
+
+  there : FromToken f.text 0 f.text from_stmt.0 (from_stmt.1 ++ held.among.back)
+  there = from_token f.text f.items 0 f.text held.among.front from_stmt.0 (from_stmt.1 ++ held.among.back) (text_tiled f.text f.items f.lexes)
+      (held.among.whole ∙ ap (λ y. held.among.front ++ (y ++ held.among.back)) from_stmt.2)
+
+  pub stmt_within : (stmt_mark (element x).stmt).from ≤ length f.text
+  stmt_within = omega (arith, from_stmt.3, there.stands, ap length there.whole, length-append there.front there.rest)
+
+  pub value_behind : (stmt_mark (element x).stmt).from ≤ (exp_mark x.value).from
+  value_behind = by value_among.front value_among.part value_among.whole (exp_mark_is x.value value_among.part value_among.stands) (exp_some itself 0 x.value value_among.part (subst (λ l. Stands l value_among.part) (sym (spans_from-span 0 (exp_layout x.value))) value_among.stands))
+    where
+      by : (front part : Tokens) → held.among.part ≡ front ++ (part ++ value_among.back) → exp_mark x.value ≡ span_of part → IsSome part → (stmt_mark (element x).stmt).from ≤ (exp_mark x.value).from
+      by [] part e mark some =
+          let same : from_stmt.0 ≡ some.0 = head_same _ _ _ _ (sym from_stmt.2 ∙ e ∙ ap (λ y. y ++ value_among.back) some.2) in
+          let begins_so : (exp_mark x.value).from ≡ some.0.mark.from = ap (λ (m : Span). m.from) mark ∙ ap first_from some.2 in
+          omega (arith, from_stmt.3, begins_so, ap (λ (q : Placed Span). q.mark.from) same)
+      by (q ∷ front) part e mark some =
+          let begins_so : (exp_mark x.value).from ≡ some.0.mark.from = ap (λ (m : Span). m.from) mark ∙ ap first_from some.2 in
+          let parts : from_stmt.0 ∷ from_stmt.1 ≡ q ∷ (front ++ (some.0 ∷ some.1) ++ value_among.back) = sym from_stmt.2 ∙ e ∙ ap (λ y. q ∷ (front ++ (y ++ value_among.back))) some.2 in
+          let rest : from_stmt.1 ++ held.among.back ≡ front ++ some.0 ∷ (some.1 ++ (value_among.back ++ held.among.back)) = ap (λ y. y ++ held.among.back) (tail_same _ _ _ _ parts) ∙ grouped front (some.0 ∷ some.1) value_among.back held.among.back in
+          let later = behind_others f.text there.items_there (0 + length there.front) there.rest from_stmt.0 front some.0 (some.1 ++ (value_among.back ++ held.among.back)) there.tiled (there.placed ∙ ap (λ y. from_stmt.0 ∷ y) rest) in
+          omega (arith, from_stmt.3, begins_so, there.stands, later)
+        where
+          grouped : (a b c d : Tokens) → (a ++ (b ++ c)) ++ d ≡ a ++ (b ++ (c ++ d))
+          grouped a b c d = simp append_assoc
 
   -- ---- the name
 

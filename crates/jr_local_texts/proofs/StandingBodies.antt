@@ -1,8 +1,8 @@
 -- Where the list of a body stands among its file's tokens.
 use Rattle.std.proofs.Common.{◌≡◌, ◌⊎◌, inl, inr, ℕ, zero, suc, List, [], ◌∷◌, ◌++◌, map, Option, Some, None, refl, sym, ap, ◌∙◌, subst}
-use Rattle.std.specs.Prelude.{slice_get, Contains}
+use Rattle.std.specs.Prelude.{slice_get, Contains, option_map}
 use Rattle.std.proofs.lemmas.List.{append_assoc, append-nil}
-use Rattle.std.proofs.lemmas.Option.{slice_get_within, get_or_from_slice_get}
+use Rattle.std.proofs.lemmas.Option.{none-some, same_Some, slice_get_within, get_or_from_slice_get, slice_get-map}
 use Rattle.jr_text.specs.declared.spans.Span.{Span}
 use Rattle.jr_lex.specs.declared.items.Item.{Item}
 use Rattle.jr_lex.specs.declared.items.Symbol.TheVariants.{OpenBrace, CloseBrace, Semicolon}
@@ -152,10 +152,16 @@ body_stands k base (member_part (syntax.constructor m mods w qs args body)) boun
 contains_at : {X : Type 0} (xs : List X) (n : ℕ) (x : X) → slice_get xs n ≡ Some x → Contains xs x
 contains_at xs n x e = (n, slice_get_within xs n x e, get_or_from_slice_get xs n x x e)
 
-unit_at : (fs : List (File Span)) (n : ℕ) (f : File Span) (u : syntax.Unit Span) → slice_get fs n ≡ Some f → slice_get (map (λ (x : File Span). x.unit) fs) n ≡ Some u → f.unit ≡ u
-unit_at [] n f u e h = absurd (let none : Option (File Span) = None in let no : none ≡ Some f = e in cc)
-unit_at (x ∷ fs) zero f u e h = (let same : x ≡ f = cc in let unit : x.unit ≡ u = cc in ap (λ (y : File Span). y.unit) (sym same) ∙ unit)
-unit_at (x ∷ fs) (suc n) f u e h = unit_at fs n f u e h
+-- the file that a unit is of
+pub file_of_unit : (p : Program Span) (n : ℕ) (u : syntax.Unit Span) → slice_get (units_of p) n ≡ Some u → (f : File Span) × (slice_get p.files n ≡ Some f) × (f.unit ≡ u)
+file_of_unit p n u e = of (slice_get p.files n) refl
+  where
+    is : (o : Option (File Span)) → slice_get p.files n ≡ o → option_map (λ (x : File Span). x.unit) o ≡ Some u
+    is o there = sym (slice_get-map (λ (x : File Span). x.unit) p.files n ∙ ap (option_map (λ (x : File Span). x.unit)) there) ∙ e
+
+    of : (o : Option (File Span)) → slice_get p.files n ≡ o → (f : File Span) × (slice_get p.files n ≡ Some f) × (f.unit ≡ u)
+    of None none = absurd (none-some u (is None none))
+    of (Some f) there = (f, there, same_Some f.unit u (is (Some f) there))
 
 -- a file's text has these items, and they are what its unit was read from
 pub unit_stands : (p : Program Span) → IsProgram itself (λ m b. Unit {0}) p → (file : ℕ) (text : List ℕ) (items : List Item) → HasText p file text → Lexes text items → (u : syntax.Unit Span) → slice_get (units_of p) file ≡ Some u
@@ -164,7 +170,8 @@ unit_stands p program file text items has lexes u e =
     let g = has.0 in
     let r = program.reads file g has.1 in
     let same : r.items ≡ items = one_lexing text r.items items (subst (λ t. Lexes t r.items) has.2 r.lexes) lexes in
-    let unit : g.unit ≡ u = unit_at p.files file g u has.1 e in
+    let found = file_of_unit p file u e in
+    let unit : g.unit ≡ u = ap (λ (x : File Span). x.unit) (same_Some g found.0 (sym has.1 ∙ found.1)) ∙ found.2 in
     let there : StandInOrder (unit_layouts g.unit) (placed_of g.text r.items) = subst (λ x. StandInOrder x (placed_of g.text r.items)) (all_spans_from-span 0 (unit_layouts g.unit)) r.spans in
     subst (λ x. StandInOrder (unit_layouts x) (placed_of text items)) unit
     (subst (λ t. StandInOrder (unit_layouts g.unit) (placed_of t items)) has.2

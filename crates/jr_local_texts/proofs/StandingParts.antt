@@ -168,7 +168,7 @@ last_part ps h go = subst (LastIs ListFront) (sym (h.whole ∙ ap (λ x. h.front
 
 -- a statement ends in a brace or a semicolon
 mutual
-  stmt_last : (s : statement.Stmt Span) (ps : Tokens) → Stands (stmt_layout s) ps → LastIs ListFront ps
+  pub stmt_last : (s : statement.Stmt Span) (ps : Tokens) → Stands (stmt_layout s) ps → LastIs ListFront ps
   stmt_last (statement.local m f t w e) ps h = last_rest ps h.parts (λ qs k. last_rest qs k (λ rs l. last_rest rs l (λ us i. last_rest us i (λ vs j. last_rest vs j (last_alone (symbol Semicolon) (inr (inr refl)))))))
   stmt_last (statement.eval m e) ps h = last_rest ps h.parts (last_alone (symbol Semicolon) (inr (inr refl)))
   stmt_last (statement.branch m c s statement.no_else) ps h =

@@ -55,7 +55,7 @@ digit_no_dot d h = by (d == 46) refl
     by false other = refl
 
 -- a lexeme of a token that begins with no dot
-lexeme_no_dot : (k : TokenKind) (f rest : List ℕ) → begins_no_dot k ≡ true → IsLexeme (TokenItem k) f → first_passes (λ c. c == 46) (f ++ rest) ≡ false
+pub lexeme_no_dot : (k : TokenKind) (f rest : List ℕ) → begins_no_dot k ≡ true → IsLexeme (TokenItem k) f → first_passes (λ c. c == 46) (f ++ rest) ≡ false
 lexeme_no_dot Word f rest h l = no_dot_there (f ++ rest) (lets_end (TokenItem (Mark Dot)) (TokenItem Word) f rest refl l)
 lexeme_no_dot (Keyword k) f rest h l = no_dot_there (f ++ rest) (lets_end (TokenItem (Mark Dot)) (TokenItem (Keyword k)) f rest refl l)
 lexeme_no_dot Text f rest h l = no_dot_there (f ++ rest) (lets_end (TokenItem (Mark Dot)) (TokenItem Text) f rest refl l)
@@ -184,7 +184,7 @@ symbol_glued s new us ends g =
     let cut : IsCut (TokenItem (Mark s)) (chars (symbol_text s)) (chars new) = subst (λ f. IsCut (TokenItem (Mark s)) f (chars new)) (sym (paren_chars s)) (lexeme_cut (TokenItem (Mark s)) (symbol_text s) (chars new) refl ends) in
     kept_glued (TokenItem (Mark s)) (symbol_text s) (chars new) new us (part.part_is_text (part.mark s) tt) cut g (inr cut)
 
-behind_symbol : (s : Symbol) (new : List ℕ) → chars (symbol_text s ++ new) ≡ symbol_text s ++ chars new
+pub behind_symbol : (s : Symbol) (new : List ℕ) → chars (symbol_text s ++ new) ≡ symbol_text s ++ chars new
 behind_symbol s new = chars-append (symbol_text s) new (part.part_is_text (part.mark s) tt) ∙ ap (λ c. c ++ chars new) (paren_chars s)
 
 pub paren_core : {text : List ℕ} {ts : List Token} → Core text ts → Core (codes "(" ++ text ++ codes ")") (symbol OpenParen ∷ (ts ++ (symbol CloseParen ∷ [])))
