@@ -5,3 +5,7 @@ pub mod PrintedTypes
 pub mod Declarations
 pub mod KeptNames
 pub mod ExtractLists
+pub mod LineEnds
+pub mod InlineParts
+pub mod InlineSpots
+pub mod InlineLists

@@ -32,7 +32,7 @@ some_width [] h = absurd (h chars-nil)
 some_width (b ∷ bs) h = omega arith
 
 -- what an item that is a token is
-token_place : (all : List ℕ) (i : Item) (is : List Item) (of : TokenKind) (q : Placed Span) (qs : Tokens) → i.kind ≡ TokenItem of → placed_of all (i ∷ is) ≡ q ∷ qs → (q.mark ≡ i.span) × (kind_of q.token ≡ of) × (placed_of all is ≡ qs)
+pub token_place : (all : List ℕ) (i : Item) (is : List Item) (of : TokenKind) (q : Placed Span) (qs : Tokens) → i.kind ≡ TokenItem of → placed_of all (i ∷ is) ≡ q ∷ qs → (q.mark ≡ i.span) × (kind_of q.token ≡ of) × (placed_of all is ≡ qs)
 token_place all i is of q qs kind placed =
     let whole = sym (placed_token all i is of kind) ∙ placed in
     let same : placed_at all i of ≡ q = head_same _ _ _ _ whole in (
@@ -159,13 +159,13 @@ ends_behind k (i ∷ is) at rest tiled slash none =
 
 -- ---- in front of a token
 
-ends_here : (i : Item) (is : List Item) (to : ℕ) (k : TokenKind) → i.span.to ≡ to → ending_at to (i ∷ is) ≡ Some k → token_in i.kind ≡ Some k
+pub ends_here : (i : Item) (is : List Item) (to : ℕ) (k : TokenKind) → i.span.to ≡ to → ending_at to (i ∷ is) ≡ Some k → token_in i.kind ≡ Some k
 ends_here i is to k e h = sym (ap (λ b. if b then token_in i.kind else ending_at to is) (eq-eqb i.span.to to e)) ∙ h
 
-ends_later : (i : Item) (is : List Item) (to : ℕ) (k : TokenKind) → i.span.to ≢ to → ending_at to (i ∷ is) ≡ Some k → ending_at to is ≡ Some k
+pub ends_later : (i : Item) (is : List Item) (to : ℕ) (k : TokenKind) → i.span.to ≢ to → ending_at to (i ∷ is) ≡ Some k → ending_at to is ≡ Some k
 ends_later i is to k ne h = sym (ap (λ b. if b then token_in i.kind else ending_at to is) (ne_eqb i.span.to to ne)) ∙ h
 
-token_kind : (of : ItemKind) (k : TokenKind) → token_in of ≡ Some k → of ≡ TokenItem k
+pub token_kind : (of : ItemKind) (k : TokenKind) → token_in of ≡ Some k → of ≡ TokenItem k
 token_kind (TokenItem u) k e = (let same : u ≡ k = cc in ap TokenItem same)
 token_kind Blank k e = absurd (let none : Option TokenKind = None in let no : none ≡ Some k = e in cc)
 token_kind Comment k e = absurd (let none : Option TokenKind = None in let no : none ≡ Some k = e in cc)
