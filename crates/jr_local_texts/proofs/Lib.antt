@@ -9,3 +9,7 @@ pub mod LineEnds
 pub mod InlineParts
 pub mod InlineSpots
 pub mod InlineLists
+pub mod ValueShapes
+pub mod ShapedBodies
+pub mod ExtractFit
+pub mod InlineFit

@@ -120,10 +120,10 @@ module _ {f : tree.Exp Span} {el : Element f} where
 
 -- ---- members
 
-no_body : (b : Body) → (let none : Option Body = None in none ≡ Some b) → ⊥
+pub no_body : (b : Body) → (let none : Option Body = None in none ≡ Some b) → ⊥
 no_body b e = cc
 
-same_body : (a b : Body) → (let o : Option Body = Some a in o ≡ Some b) → a ≡ b
+pub same_body : (a b : Body) → (let o : Option Body = Some a in o ≡ Some b) → a ≡ b
 same_body a b e = cc
 
 pub body_stands : (k : MemberKey) (base : ℕ) (part : Part Span) (bound : Bound) (b : Body) → body_of k base part bound ≡ Some b → (ps : Tokens) → StandsPart part ps
@@ -149,7 +149,7 @@ body_stands k base (member_part (syntax.constructor m mods w qs args body)) boun
 
 -- ---- files
 
-contains_at : {X : Type 0} (xs : List X) (n : ℕ) (x : X) → slice_get xs n ≡ Some x → Contains xs x
+pub contains_at : {X : Type 0} (xs : List X) (n : ℕ) (x : X) → slice_get xs n ≡ Some x → Contains xs x
 contains_at xs n x e = (n, slice_get_within xs n x e, get_or_from_slice_get xs n x x e)
 
 -- the file that a unit is of
