@@ -130,8 +130,8 @@ module _ (at : Span) (name : List ℕ) (is_name : IsName name) (t : tree.TypeNam
 
   -- it may come where nothing that runs on with it stands in front
   pub declaration_precedes : (F : Fronts) (bytes : List ℕ) (place : ℕ) → ((k : TokenKind) → F place k → IsOpen k) → MayPrecede F bytes place (declaration_text name (printed_type t) init gap) (stmt_toks (declaration name at t e))
-  declaration_precedes F bytes place open = record {
+  declaration_precedes F bytes place opens = record {
     glued = declaration_glued;
-    yields = λ new old us g. ends_yield old (chars (declaration_text name (printed_type t) init gap ++ new)) (λ k may. open_ends k (open k may) (chars (declaration_text name (printed_type t) init gap ++ new)))
+    yields = λ new old us g. ends_yield old (chars (declaration_text name (printed_type t) init gap ++ new)) (λ k may. open_ends k (opens k may) (chars (declaration_text name (printed_type t) init gap ++ new)))
         (ap (λ x. first_passes (λ c. c == 46) (chars x)) (all_text new) ∙ (whole new us g).no_dot);
   }

@@ -181,8 +181,8 @@ module _ (p : Program Span) (program : IsProgram itself (λ m b. Unit {0}) p) (w
   -- a word begins at its place
   word_begins : (all : List ℕ) (items : List Item) (place : ℕ) (bytes : List ℕ) (q : Placed Span) (qs : Tokens) → Tiled anywhere place bytes items → placed_of all items ≡ q ∷ qs → q.mark.from ≡ place → IsWord q.token
       → first_passes is_word_part (chars bytes) ≡ false → ⊥
-  word_begins all [] place bytes q qs tiled placed from is no = (let none : Tokens = [] in let e : none ≡ q ∷ qs = placed in cc)
-  word_begins all (i ∷ is) place bytes q qs tiled placed from is_word no = by_kind i.kind refl
+  word_begins all [] place bytes q qs tiled placed from is stops = (let none : Tokens = [] in let e : none ≡ q ∷ qs = placed in cc)
+  word_begins all (i ∷ is) place bytes q qs tiled placed from is_word stops = by_kind i.kind refl
     where
       wide : 0 < length tiled.0
       wide = some_width tiled.0 (some_lexeme tiled.3)
@@ -201,7 +201,7 @@ module _ (p : Program Span) (program : IsProgram itself (λ m b. Unit {0}) p) (w
       by_kind (TokenItem of) e =
           let word_of : of ≡ Word = sym (token_place all i is of q qs e placed).1 ∙ word_kind q.token is_word in
           let lexeme : IsLexeme (TokenItem Word) (chars tiled.0) = subst (λ x. IsLexeme x (chars tiled.0)) (e ∙ ap TokenItem word_of) tiled.3.cut.taken.lexeme in
-          both_ways (first_passes is_word_part (chars bytes)) no (ap (first_passes is_word_part) text ∙ part_first (chars tiled.0 ++ chars tiled.1) (word_first (chars tiled.0) (chars tiled.1) lexeme))
+          both_ways (first_passes is_word_part (chars bytes)) stops (ap (first_passes is_word_part) text ∙ part_first (chars tiled.0 ++ chars tiled.1) (word_first (chars tiled.0) (chars tiled.1) lexeme))
       by_kind Blank e = behind (sym (placed_blank all i is e) ∙ placed)
       by_kind Comment e = behind (sym (placed_comment all i is e) ∙ placed)
 

@@ -211,9 +211,12 @@ starts_line bytes at within (inl e) = inl e
 starts_line bytes zero within (inr h) = inl refl
 starts_line bytes (suc n) within (inr h) = inr (ends_there is_line_end bytes n (omega (arith, within)) ∙ by h.1)
   where
+    same : (k : ℕ) → k ≡ suc k - 1
+    same k = omega arith
+
     by : (HasByte bytes (suc n - 1) 10) ⊎ ((HasByte bytes (suc n - 1) 13) × (¬ HasByte bytes (suc n) 10)) → is_line_end (get_or bytes n 0) ≡ true
-    by (inl lf) = ap is_line_end lf.1
-    by (inr cr) = ap is_line_end cr.0.1
+    by (inl lf) = ap (λ k. is_line_end (get_or bytes k 0)) (same n) ∙ ap is_line_end lf.1
+    by (inr cr) = ap (λ k. is_line_end (get_or bytes k 0)) (same n) ∙ ap is_line_end cr.0.1
 
 -- of a run with these lines
 module _ (bytes : List ℕ) (run : Tokens) (whole : Span) (lines : AreLinesOf bytes (span_of run) whole) (ordered : first_from run ≤ last_to run) (within : last_to run ≤ length bytes) where

@@ -105,4 +105,4 @@ list_shaped p program written file b h =
     let found = file_of_unit p w.file is.unit is.stands in
     let shaped : ClassesShaped is.unit.classes = subst (λ (u : syntax.Unit Span). ClassesShaped u.classes) found.2 (program.reads w.file found.0 found.1).is.shaped in
     let some = classes_parts (declarations_of begins (units_of p)) (λ j n q. (n ≡ w.base) × (q ≡ w.part)) (begins is.unit.mark 0) is.unit.classes w.key is.writes shaped in
-    body_shaped w.key w.base w.part b.bound b h.is (subst PartShaped some.2.1 some.3)
+    body_shaped w.key w.base w.part b.bound b h.is (subst PartShaped some.2.0.1 some.2.1)

@@ -78,10 +78,10 @@ stmt_mark_is (statement.empty m) ps h = h.mark
 no_call_or_end : (args : Option (tree.Exps Span)) (ps : Tokens) → Stands (parent_call_layout args) ps → (ps ≡ []) ⊎ LastIs ListFront ps
 no_call_or_end None ps h = inl h
 no_call_or_end (Some es) ps h =
-    inr (subst (LastIs ListFront) (sym h.whole) (last_behind h.front h.back
-    (subst (LastIs ListFront) (sym h.rest.whole) (last_behind h.rest.front h.rest.back
-    (subst (LastIs ListFront) (sym h.rest.rest.whole) (last_behind h.rest.rest.front h.rest.rest.back
-    (subst (LastIs ListFront) (sym h.rest.rest.rest.whole) (last_behind h.rest.rest.rest.front h.rest.rest.rest.back (last_alone h.rest.rest.rest.back h.rest.rest.rest.rest)))))))))
+    inr (subst (LastIs ListFront) (sym h.whole) (last_behind ListFront h.front h.back
+    (subst (LastIs ListFront) (sym h.rest.whole) (last_behind ListFront h.rest.front h.rest.back
+    (subst (LastIs ListFront) (sym h.rest.rest.whole) (last_behind ListFront h.rest.rest.front h.rest.rest.back
+    (subst (LastIs ListFront) (sym h.rest.rest.rest.whole) (last_behind ListFront h.rest.rest.rest.front h.rest.rest.rest.back (last_alone h.rest.rest.rest.back h.rest.rest.rest.rest)))))))))
   where
     last_alone : (ps : Tokens) → InOrder (IsAlone (symbol Semicolon)) (λ qs. qs ≡ []) ps → LastIs ListFront ps
     last_alone ps h =
@@ -104,19 +104,19 @@ module _ {f : tree.Exp Span} {el : Element f} where
       open_is ys is = subst (LastIs ListFront) (sym is) (subst ListFront (sym h.first.is) (inl refl))
 
       front_is : (xs : Tokens) → (xs ≡ []) ⊎ LastIs ListFront xs → (cs : Tokens) → (cs ≡ []) ⊎ LastIs ListFront cs → (ys : Tokens) → ys ≡ h.first.placed ∷ [] → LastIs ListFront (ys ++ (cs ++ xs))
-      front_is xs (inr some) cs c ys is = last_behind ys (cs ++ xs) (last_behind cs xs some)
-      front_is xs (inl none) cs (inr some) ys is = subst (λ x. LastIs ListFront (ys ++ (cs ++ x))) (sym none) (last_behind ys (cs ++ []) (subst (LastIs ListFront) (sym (append-nil cs)) some))
-      front_is xs (inl none) cs (inl no) ys is = subst (LastIs ListFront) (sym (append-nil ys) ∙ (λ i. ys ++ (sym no i ++ sym none i))) (open_is ys is)
+      front_is xs (inr some) cs c ys is = last_behind ListFront ys (cs ++ xs) (last_behind ListFront cs xs some)
+      front_is xs (inl none) cs (inr some) ys is = subst (λ x. LastIs ListFront (ys ++ (cs ++ x))) (sym none) (last_behind ListFront ys (cs ++ []) (subst (LastIs ListFront) (sym (append-nil cs)) some))
+      front_is xs (inl none) cs (inl neither) ys is = subst (LastIs ListFront) (sym (append-nil ys) ∙ (λ i. ys ++ (sym neither i ++ sym none i))) (open_is ys is)
 
       back_is : (xs : Tokens) → (xs ≡ []) ⊎ FirstIs ListBack xs → (ys : Tokens) → InOrder (IsAlone (symbol CloseBrace)) (λ qs. qs ≡ []) ys → FirstIs ListBack (xs ++ ys)
-      back_is xs (inr some) ys i = first_before xs ys some
+      back_is xs (inr some) ys i = first_before ListBack xs ys some
       back_is xs (inl none) ys i =
           subst (λ x. FirstIs ListBack (x ++ ys)) (sym none) (subst (FirstIs ListBack) (sym (i.whole ∙ ap (λ x. x ++ i.back) i.first.alone)) i.first.is)
 
   through : {P Q : Tokens → Type 0} (ps : Tokens) → InOrder P Q ps → ((qs : Tokens) → Q qs → ElementWithin el qs) → ElementWithin el ps
   through ps h go =
       let e = go h.back h.rest in
-      record { among = among_rest ps h (λ qs k. (go qs k).among); front = last_behind h.front e.among.front e.front; back = e.back }
+      record { among = among_rest ps h (λ qs k. (go qs k).among); front = last_behind ListFront h.front e.among.front e.front; back = e.back }
 
 -- ---- members
 
@@ -133,19 +133,19 @@ body_stands k base (member_part (syntax.field m mods t w init)) bound b e ps h d
 body_stands k base (member_part (syntax.inner m c)) bound b e ps h d = absurd (no_body b e)
 body_stands k base (member_part (syntax.method m mods t w qs body)) bound b e ps h {f} d =
     subst (λ (x : Body). (way : ListWay f x.list) → ElementWithin (nearest begins x.at way) ps) (same_body _ b e)
-    (λ way. through ps h.parts (λ q1 h1. through q1 h1 (λ q2 h2. through q2 h2 (λ q3 h3. through q3 h3 (λ q4 h4. through q4 h4 (λ q5 h5. through q5 h5 (λ q6 h6. braced_list q6 h6 way))))))) d
+    (λ way. through ps h.parts (λ q1 h1. through q1 h1 (λ q2 h2. through q2 h2 (λ q3 h3. through q3 h3 (λ q4 h4. through q4 h4 (λ q5 h5. through q5 h5 (λ q6 h6. braced_list _ q6 h6 way))))))) d
   where
-    braced_list : {at : Standing} (q : Tokens) → InOrder (IsAlone (symbol OpenBrace)) (InOrder (Stands (stmts_layout body)) (InOrder (IsAlone (symbol CloseBrace)) (λ qs. qs ≡ []))) q
+    braced_list : (at : Standing) (q : Tokens) → InOrder (IsAlone (symbol OpenBrace)) (InOrder (Stands (stmts_layout body)) (InOrder (IsAlone (symbol CloseBrace)) (λ qs. qs ≡ []))) q
         → (way : ListWay f body) → ElementWithin (nearest begins at way) q
-    braced_list {at} q h way = braced q h (list_element at body way)
+    braced_list at q h way = braced q h (list_element at body way)
 body_stands k base (member_part (syntax.constructor m mods w qs args body)) bound b e ps h {f} d =
     subst (λ (x : Body). (way : ListWay f x.list) → ElementWithin (nearest begins x.at way) ps) (same_body _ b e)
-    (λ way. through ps h.parts (λ q1 h1. through q1 h1 (λ q2 h2. through q2 h2 (λ q3 h3. through q3 h3 (λ q4 h4. through q4 h4 (λ q5 h5. behind_call q5 h5 way)))))) d
+    (λ way. through ps h.parts (λ q1 h1. through q1 h1 (λ q2 h2. through q2 h2 (λ q3 h3. through q3 h3 (λ q4 h4. through q4 h4 (λ q5 h5. behind_call _ q5 h5 way)))))) d
   where
-    behind_call : {at : Standing} (q : Tokens)
+    behind_call : (at : Standing) (q : Tokens)
         → InOrder (IsAlone (symbol OpenBrace)) (InOrder (Stands (parent_call_layout args)) (InOrder (Stands (stmts_layout body)) (InOrder (IsAlone (symbol CloseBrace)) (λ qs. qs ≡ [])))) q
         → (way : ListWay f body) → ElementWithin (nearest begins at way) q
-    behind_call {at} q h way = enclosed q h (no_call_or_end args) (list_element at body way)
+    behind_call at q h way = enclosed q h (no_call_or_end args) (list_element at body way)
 
 -- ---- files
 
@@ -186,8 +186,8 @@ element_stands p program written file text items has lexes b h d =
     let stands = unit_stands p program file text items has lexes is.unit (ap (slice_get (units_of p)) (sym h.in_file) ∙ is.stands) in
     let all = placed_of text items in
     let some = unit_parts all (declarations_of begins (units_of p)) (λ j n q. (n ≡ w.base) × (q ≡ w.part)) is.unit w.key is.writes all (whole_piece all) stands in
-    let piece = some.3.piece in
-    let e = body_stands w.key w.base w.part b.bound b h.is some.3.tokens (subst (λ q. StandsPart q some.3.tokens) some.2.1 some.3.stands) d in
+    let piece = some.2.1.piece in
+    let e = body_stands w.key w.base w.part b.bound b h.is some.2.1.tokens (subst (λ q. StandsPart q some.2.1.tokens) some.2.0.1 some.2.1.stands) d in
     record {
       among = record {
         front = piece.front ++ e.among.front;
@@ -196,8 +196,8 @@ element_stands p program written file text items has lexes b h d =
         whole = piece.whole ∙ ap (λ x. piece.front ++ (x ++ piece.back)) e.among.whole ∙ grouped piece.front e.among.front e.among.part e.among.back piece.back;
         stands = e.among.stands;
       };
-      front = last_behind piece.front e.among.front e.front;
-      back = first_before e.among.back piece.back e.back;
+      front = last_behind ListFront piece.front e.among.front e.front;
+      back = first_before ListBack e.among.back piece.back e.back;
     }
   where
     grouped : (a b c d e : Tokens) → a ++ ((b ++ (c ++ d)) ++ e) ≡ (a ++ b) ++ (c ++ (d ++ e))

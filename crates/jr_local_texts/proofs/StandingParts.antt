@@ -27,16 +27,16 @@ pub record Among (Part : Tokens → Type 0) (ps : Tokens) : Type 0 where
   pub whole : ps ≡ front ++ (part ++ back)
   pub stands : Part part
 
-grouped_back : (a b c d : Tokens) → (a ++ (b ++ c)) ++ d ≡ a ++ (b ++ (c ++ d))
+pub grouped_back : (a b c d : Tokens) → (a ++ (b ++ c)) ++ d ≡ a ++ (b ++ (c ++ d))
 grouped_back a b c d = simp append_assoc
 
-grouped_front : (a b c d : Tokens) → a ++ (b ++ (c ++ d)) ≡ (a ++ b) ++ (c ++ d)
+pub grouped_front : (a b c d : Tokens) → a ++ (b ++ (c ++ d)) ≡ (a ++ b) ++ (c ++ d)
 grouped_front a b c d = simp append_assoc
 
 all_of_it : {Part : Tokens → Type 0} (ps : Tokens) → Part ps → Among Part ps
 all_of_it ps h = record { front = []; part = ps; back = []; whole = sym (append-nil ps); stands = h }
 
-pub among_first : {Part P Q : Tokens → Type 0} (ps : Tokens) → InOrder P Q ps → ((qs : Tokens) → P qs → Among Part qs) → Among Part ps
+abbrev pub among_first : {Part P Q : Tokens → Type 0} (ps : Tokens) → InOrder P Q ps → ((qs : Tokens) → P qs → Among Part qs) → Among Part ps
 among_first ps h go =
     let a = go h.front h.first in
     record {
@@ -47,7 +47,7 @@ among_first ps h go =
       stands = a.stands;
     }
 
-pub among_rest : {Part P Q : Tokens → Type 0} (ps : Tokens) → InOrder P Q ps → ((qs : Tokens) → Q qs → Among Part qs) → Among Part ps
+abbrev pub among_rest : {Part P Q : Tokens → Type 0} (ps : Tokens) → InOrder P Q ps → ((qs : Tokens) → Q qs → Among Part qs) → Among Part ps
 among_rest ps h go =
     let a = go h.back h.rest in
     record {
@@ -145,18 +145,18 @@ ListFront t = (t ≡ symbol OpenBrace) ⊎ (t ≡ symbol CloseBrace) ⊎ (t ≡ 
 abbrev pub ListBack : Token → Type 0
 ListBack t = t ≡ symbol CloseBrace
 
-pub last_behind : {P : Token → Type 0} (xs ys : Tokens) → LastIs P ys → LastIs P (xs ++ ys)
-last_behind [] ys h = h
-last_behind (x ∷ []) [] h = absurd h
-last_behind (x ∷ []) (y ∷ ys) h = h
-last_behind (x ∷ z ∷ xs) ys h = last_behind (z ∷ xs) ys h
+pub last_behind : (P : Token → Type 0) (xs ys : Tokens) → LastIs P ys → LastIs P (xs ++ ys)
+last_behind P [] ys h = h
+last_behind P (x ∷ []) [] h = absurd h
+last_behind P (x ∷ []) (y ∷ ys) h = h
+last_behind P (x ∷ z ∷ xs) ys h = last_behind P (z ∷ xs) ys h
 
-pub first_before : {P : Token → Type 0} (xs ys : Tokens) → FirstIs P xs → FirstIs P (xs ++ ys)
-first_before [] ys h = absurd h
-first_before (x ∷ xs) ys h = h
+pub first_before : (P : Token → Type 0) (xs ys : Tokens) → FirstIs P xs → FirstIs P (xs ++ ys)
+first_before P [] ys h = absurd h
+first_before P (x ∷ xs) ys h = h
 
-last_rest : {T : Token → Type 0} {P Q : Tokens → Type 0} (ps : Tokens) → InOrder P Q ps → ((qs : Tokens) → Q qs → LastIs T qs) → LastIs T ps
-last_rest {T} ps h go = subst (LastIs T) (sym h.whole) (last_behind h.front h.back (go h.back h.rest))
+last_rest : {P Q : Tokens → Type 0} (ps : Tokens) → InOrder P Q ps → ((qs : Tokens) → Q qs → LastIs ListFront qs) → LastIs ListFront ps
+last_rest ps h go = subst (LastIs ListFront) (sym h.whole) (last_behind ListFront h.front h.back (go h.back h.rest))
 
 last_alone : (t : Token) → ListFront t → (ps : Tokens) → InOrder (IsAlone t) (λ qs. qs ≡ []) ps → LastIs ListFront ps
 last_alone t is ps h =
@@ -208,12 +208,12 @@ module _ {f : tree.Exp Span} where
   within_first : {el : Element f} {P Q : Tokens → Type 0} (ps : Tokens) → InOrder P Q ps → ((qs : Tokens) → P qs → ElementWithin el qs) → ElementWithin el ps
   within_first ps h go =
       let e = go h.front h.first in
-      record { among = among_first ps h (λ qs k. (go qs k).among); front = e.front; back = first_before e.among.back h.back e.back }
+      record { among = among_first ps h (λ qs k. (go qs k).among); front = e.front; back = first_before ListBack e.among.back h.back e.back }
 
   within_rest : {el : Element f} {P Q : Tokens → Type 0} (ps : Tokens) → InOrder P Q ps → ((qs : Tokens) → Q qs → ElementWithin el qs) → ElementWithin el ps
   within_rest ps h go =
       let e = go h.back h.rest in
-      record { among = among_rest ps h (λ qs k. (go qs k).among); front = last_behind h.front e.among.front e.front; back = e.back }
+      record { among = among_rest ps h (λ qs k. (go qs k).among); front = last_behind ListFront h.front e.among.front e.front; back = e.back }
 
   -- a list between braces
   pub braced : {el : Element f} {L : Tokens → Type 0} (ps : Tokens) → InOrder (IsAlone (symbol OpenBrace)) (InOrder L (InOrder (IsAlone (symbol CloseBrace)) (λ qs. qs ≡ []))) ps
@@ -229,10 +229,10 @@ module _ {f : tree.Exp Span} where
     where
       front_is : (xs : Tokens) → (xs ≡ []) ⊎ LastIs ListFront xs → (ys : Tokens) → ys ≡ h.first.placed ∷ [] → LastIs ListFront (ys ++ xs)
       front_is xs (inl none) ys is = subst (LastIs ListFront) (λ i. sym is i ++ sym none i) (subst ListFront (sym h.first.is) (inl refl))
-      front_is xs (inr some) ys is = last_behind ys xs some
+      front_is xs (inr some) ys is = last_behind ListFront ys xs some
 
       back_is : (xs : Tokens) → (xs ≡ []) ⊎ FirstIs ListBack xs → (ys : Tokens) → InOrder (IsAlone (symbol CloseBrace)) (λ qs. qs ≡ []) ys → FirstIs ListBack (xs ++ ys)
-      back_is xs (inr some) ys i = first_before xs ys some
+      back_is xs (inr some) ys i = first_before ListBack xs ys some
       back_is xs (inl none) ys i =
           subst (λ x. FirstIs ListBack (x ++ ys)) (sym none) (subst (FirstIs ListBack) (sym (i.whole ∙ ap (λ x. x ++ i.back) i.first.alone)) i.first.is)
 
@@ -261,12 +261,12 @@ module _ {f : tree.Exp Span} where
         (within_rest ps h.parts (λ qs k. within_rest qs k (λ rs l. within_rest rs l (λ us i. within_rest us i (λ vs j. braced vs j (list_element (inside begins m p) b d))))))
 
     pub list_element : (p : Standing) (b : statement.Stmts Span) (d : ListWay f b) (ps : Tokens) → Stands (stmts_layout b) ps → ElementAmong (nearest begins p d) ps
-    list_element p _ (ways.first s ss d) ps h = by_element (element_within begins p d) refl
+    list_element p _ (ways.first s ss d) ps h = by_element (element_within begins p d) refl (λ el e. within_first ps h (λ qs k. stmt_element p s d qs k el e))
       where
-        by_element : (o : Option (Element f)) → element_within begins p d ≡ o → ElementAmong (or_element o (record { at = p; stmt = s; rest = ss; way = d })) ps
-        by_element None e = record { among = all_of_it ps h; front = inl refl; back = inl refl }
-        by_element (Some el) e =
-            let w = within_first ps h (λ qs k. stmt_element p s d qs k el e) in
+        by_element : (o : Option (Element f)) → element_within begins p d ≡ o → ((el : Element f) → element_within begins p d ≡ Some el → ElementWithin el ps) → ElementAmong (or_element o (record { at = p; stmt = s; rest = ss; way = d })) ps
+        by_element None e go = record { among = all_of_it ps h; front = inl refl; back = inl refl }
+        by_element (Some el) e go =
+            let w = go el e in
             record { among = w.among; front = inr w.front; back = inr w.back }
     list_element p _ (ways.later s ss d) ps h =
         let e = list_element (behind begins s p) ss d h.rest.front h.rest.first in
@@ -278,8 +278,8 @@ module _ {f : tree.Exp Span} where
       where
         front_is : (xs : Tokens) → (xs ≡ []) ⊎ LastIs ListFront xs → LastIs ListFront (h.front ++ xs)
         front_is xs (inl none) = subst (λ x. LastIs ListFront (h.front ++ x)) (sym none) (subst (LastIs ListFront) (sym (append-nil h.front)) (stmt_last s h.front h.first))
-        front_is xs (inr some) = last_behind h.front xs some
+        front_is xs (inr some) = last_behind ListFront h.front xs some
 
         back_is : (xs : Tokens) → (xs ≡ []) ⊎ FirstIs ListBack xs → (xs ++ h.rest.back ≡ []) ⊎ FirstIs ListBack (xs ++ h.rest.back)
         back_is xs (inl none) = inl (λ i. none i ++ h.rest.rest i)
-        back_is xs (inr some) = inr (first_before xs h.rest.back some)
+        back_is xs (inr some) = inr (first_before ListBack xs h.rest.back some)

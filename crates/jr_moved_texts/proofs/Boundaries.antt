@@ -211,7 +211,7 @@ none_in_front all (i ∷ is) at bytes q qs k tiled placed ends = by_place (i.spa
     by_place false e again = other i.kind refl (λ same. both_ways (i.span.to == q.mark.from) e (eq-eqb i.span.to q.mark.from same)) again
 
 -- a token stands behind others, and so behind the place
-behind_others : (all : List ℕ) (items : List Item) (at : ℕ) (bytes : List ℕ) (p : Placed Span) (ps : Tokens) (q : Placed Span) (qs : Tokens) → Tiled anywhere at bytes items → placed_of all items ≡ p ∷ (ps ++ q ∷ qs) → at < q.mark.from
+pub behind_others : (all : List ℕ) (items : List Item) (at : ℕ) (bytes : List ℕ) (p : Placed Span) (ps : Tokens) (q : Placed Span) (qs : Tokens) → Tiled anywhere at bytes items → placed_of all items ≡ p ∷ (ps ++ q ∷ qs) → at < q.mark.from
 behind_others all [] at bytes p ps q qs tiled placed = absurd (no_tokens p (ps ++ q ∷ qs) placed)
 behind_others all (i ∷ is) at bytes p ps q qs tiled placed = by_kind i.kind refl (λ r rs same. behind_others all is (at + length tiled.0) tiled.1 r rs q qs tiled.4 same)
   where

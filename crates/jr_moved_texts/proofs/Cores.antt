@@ -117,7 +117,7 @@ module _ (text : List ℕ) (ts : List Token) (g : Glued text ts) (head : TokenKi
 
 -- ---- an identifier
 
-pub name_core : (x : List ℕ) → IsName x → Core x (word x ∷ [])
+abbrev pub name_core : (x : List ℕ) → IsName x → Core x (word x ∷ [])
 name_core x n = record {
   head = Word;
   last = Word;

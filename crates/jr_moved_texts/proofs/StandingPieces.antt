@@ -84,7 +84,7 @@ piece_stands text items e front part back lexes whole stands =
 
 -- ---- its first and last token
 
-some_kind : (k u : TokenKind) → (let a : Option TokenKind = Some k in a ≡ Some u) → k ≡ u
+pub some_kind : (k u : TokenKind) → (let a : Option TokenKind = Some k in a ≡ Some u) → k ≡ u
 some_kind k u e = cc
 
 pub piece_kinds : (e : tree.Exp Span) (ps : Tokens) → Stands (exp_layout e) ps → kinds ps ≡ toks e
