@@ -36,7 +36,8 @@ use Rattle.jr_moved_texts.specs.Moved.{EndsThere}
 use Rattle.jr_moved_texts.proofs.Spaced.{Core, space_glued, ends_in_space, ends_yield}
 use Rattle.jr_moved_texts.proofs.Cores.{name_core, symbol_glued, behind_symbol}
 use Rattle.jr_moved_texts.proofs.Putting.{MayPrecede}
-use Rattle.jr_local_texts.proofs.PrintedTypes.{IsNamedType, TypeText, type_text, word_ends}
+use Rattle.jr_local_texts.specs.Fitting.{IsNamedType}
+use Rattle.jr_local_texts.proofs.PrintedTypes.{TypeText, type_text, word_ends}
 use Rattle.jr_local_texts.proofs.ExtractSpots.{IsOpen, open_ends, never}
 
 -- ---- gaps

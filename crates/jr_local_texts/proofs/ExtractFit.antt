@@ -25,7 +25,7 @@ use Rattle.jr_local.specs.Selecting.{Selected, element, at_value}
 use Rattle.jr_local.specs.Extracted.{choices, around, from_there, of_piece, name_spot, list_spot, spots_if, Moves, Puts, Extracts, Found, Fronted, extract_local}
 use Rattle.jr_moved_texts.specs.Moved.{nowhere_weaves}
 use Rattle.jr_moved_texts.proofs.StatementShapes.{stmt_shaped, list_shaped}
-use Rattle.jr_local_texts.proofs.PrintedTypes.{IsNamedType}
+use Rattle.jr_local_texts.specs.Fitting.{IsNamedType}
 use Rattle.jr_local_texts.proofs.ValueShapes.{ShapedThere, behind_minus, stmt_there}
 use Rattle.jr_local_texts.proofs.ExtractLists as lists
 

@@ -63,7 +63,7 @@ use Rattle.jr_moved_texts.proofs.TightRuns.{from_anything, run_weaves}
 use Rattle.jr_moved_texts.proofs.StandingPieces.{PieceStands, piece_begins, piece_ends, some_kind}
 use Rattle.jr_local_texts.proofs.StandingParts.{ElementWithin}
 use Rattle.jr_local_texts.proofs.StandingBodies.{exp_mark_is}
-use Rattle.jr_local_texts.proofs.PrintedTypes.{IsNamedType}
+use Rattle.jr_local_texts.specs.Fitting.{IsNamedType}
 use Rattle.jr_local_texts.proofs.Declarations.{gap_blank, declaration_precedes}
 use Rattle.jr_local_texts.proofs.KeptNames.{rows_named, same_named}
 use Rattle.jr_local_texts.proofs.ExtractSpots as spots

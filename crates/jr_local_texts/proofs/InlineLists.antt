@@ -106,7 +106,7 @@ module _ (p : Program Span) (program : IsProgram itself (λ m b. Unit {0}) p) (w
   abbrev F : Fronts
   F = Fronted p file at f.asked f.type f.text f.items f.copies f.gone file
 
-  held : ElementWithin (element t) (placed_of f.text f.items)
+  abbrev held : ElementWithin (element t) (placed_of f.text f.items)
   held = parts.held p program written file at f
 
   abbrev decl : Span

@@ -14,19 +14,26 @@ use Rattle.jr_table.specs.SameKeys.{same_name}
 use Rattle.jr_table.specs.Rows.{Row}
 use Rattle.jr_bind.specs.Programs.{File, Program, IsProgram, units_of}
 use Rattle.jr_images.specs.NamedImages.{AreNamedImages}
+use Rattle.jr_images.specs.OneLocal.{HaveNoDots}
 use Rattle.jr_images.specs.TextLaws.{AreNamed, RowsAreNamed}
 use Rattle.jr_local.specs.Bodies.{begins}
 use Rattle.jr_local.specs.Scopes.{same_images}
 use Rattle.jr_local_texts.proofs.StandingBodies.{file_of_unit}
 
-pub rows_named : RowsAreNamed Span → (p : Program Span) → IsProgram itself (λ m b. Unit {0}) p → AreNamed p.rows
-rows_named law p program = (law begins p.rows (units_of p) reads program.rows).0
+both_named : RowsAreNamed Span → (p : Program Span) → IsProgram itself (λ m b. Unit {0}) p → AreNamed p.rows × HaveNoDots p.rows
+both_named law p program = law begins p.rows (units_of p) reads program.rows
   where
     reads : (n : ℕ) (u : syntax.Unit Span) → slice_get (units_of p) n ≡ Some u → (bytes : List ℕ) × Reads bytes u
     reads n u e =
         let x = file_of_unit p n u e in
         let r = program.reads n x.0 x.1 in
         (x.0.text, subst (Reads x.0.text) x.2 (record { items = r.items; lexes = r.lexes; is = r.is }))
+
+pub rows_named : RowsAreNamed Span → (p : Program Span) → IsProgram itself (λ m b. Unit {0}) p → AreNamed p.rows
+rows_named law p program = (both_named law p program).0
+
+pub rows_undotted : RowsAreNamed Span → (p : Program Span) → IsProgram itself (λ m b. Unit {0}) p → HaveNoDots p.rows
+rows_undotted law p program = (both_named law p program).1
 
 same_refl : (x : List ℕ) → same_name x x ≡ true
 same_refl x = (bytes_decides x x).1 refl

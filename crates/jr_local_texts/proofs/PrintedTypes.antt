@@ -24,15 +24,9 @@ use Rattle.jr_print.specs.ExpressionText.{printed_type}
 use Rattle.jr_rewrite.proofs.Parts as part
 use Rattle.jr_rewrite.proofs.Weaving.{kept_glued}
 use Rattle.jr_moved_texts.specs.Moved.{EndsThere}
+use Rattle.jr_local_texts.specs.Fitting.{IsNamedType}
 use Rattle.jr_moved_texts.proofs.Spaced.{space_glued, ends_in_space}
 use Rattle.jr_moved_texts.proofs.Cores.{name_core, symbol_glued, behind_symbol, lexeme_no_dot}
-
--- the words of the type are identifiers
-abbrev pub IsNamedType : {A : Type 0} → tree.TypeName A → Type 0
-IsNamedType (tree.int m) = Unit {0}
-IsNamedType (tree.boolean m) = Unit {0}
-IsNamedType (tree.named m None w) = IsName w.text
-IsNamedType (tree.named m (Some o) w) = IsName o.text × IsName w.text
 
 abbrev spaced : List ℕ → List ℕ
 spaced new = (32 ∷ []) ++ new

@@ -1,7 +1,14 @@
-//! The texts that extract and inline local put and take away are cut into the tokens of what they
-//! make. Nothing in it runs.
+//! What extract local and inline local owe the one form of refactorings (`jr_plan: IsFit`): laws.
+//! Nothing in it runs.
+//!
+//! [`extracts_fit`], [`inlines_fit`]: the texts that their spots put and take away are cut into the
+//! tokens of what they make, and the new trees are shaped; regions are sound, names of images are
+//! identifiers, and each token of a file may stand where it ends. So the changed files read as the
+//! new trees (`jr_plan: proofs/Planned: plans_read`).
+//!
+//! Definitions: `specs/Fitting`.
 #![tactic(auto)]
 
 mod laws;
 
-pub use laws::names_are_put;
+pub use laws::{extracts_fit, inlines_fit};
