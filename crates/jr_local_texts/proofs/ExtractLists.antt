@@ -115,21 +115,21 @@ no_higher (tree.compound m o t e) = omega arith
 
 module _ (p : Program Span) (program : IsProgram itself (λ m b. Unit {0}) p) (written : MembersAreWritten Span) (names : RowsAreNamed Span) (file from to : ℕ) (name : List ℕ) (is_name : IsName name)
     (f : Found p file from to name) where
-  abbrev x : Selected p file from to
+  abbrev pub x : Selected p file from to
   x = f.selected
 
-  abbrev F : Fronts
+  abbrev pub F : Fronts
   F = Fronted p file from to name x file
 
   abbrev all : Tokens
   all = placed_of f.text f.items
 
-  fit : (R : Region Span) → R.seen.images ≡ same_images p.rows → AreSuitable (choices p file from to name x R)
+  pub fit : (R : Region Span) → R.seen.images ≡ same_images p.rows → AreSuitable (choices p file from to name x R)
   fit R e = choosing_suits begins p.rows R (subst (AreNamedImages p.rows) (sym e) (same_named p.rows (rows_named names p program))) (λ (c : Context). p.super_at c.member)
 
   -- ---- the name
 
-  abbrev W : Weaving
+  abbrev pub W : Weaving
   W = from_anything (Weaves F f.text)
 
   name_takes : (k : Asks) (e : tree.Exp Span) (least : ℕ) → k ≡ level least → Takes k e → Takes k (name_tree name (exp_mark x.value))

@@ -138,7 +138,7 @@ module _ (p : Program Span) (program : IsProgram itself (λ m b. Unit {0}) p) (w
 
   -- ---- the spot
 
-  copy_of : (n : Naming t) (copy : Copy) → Contains f.copies copy → exp_mark n.at ≡ copy.read → (m : Naming t) × IsCopyAt p file at f.asked f.type m copy
+  pub copy_of : (n : Naming t) (copy : Copy) → Contains f.copies copy → exp_mark n.at ≡ copy.read → (m : Naming t) × IsCopyAt p file at f.asked f.type m copy
   copy_of n copy contains same =
       let found = f.are_copies.each contains.0 copy (copy_at f.copies copy contains) in
       (found.0, found.2)

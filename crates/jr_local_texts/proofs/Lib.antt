@@ -1,11 +1,12 @@
 -- Where things stand among a file's tokens: `StandingParts` (parts of a body), `StandingBodies` (bodies
--- of a file), `InlineParts` (a declaration and its reads). Texts: `PrintedTypes`, `Declarations`,
+-- of a file), `InlineParts` (a declaration and its reads). Texts: `PrintedTypes`, `NamedTypes`, `Declarations`,
 -- `LineEnds`. Spots: `ExtractSpots`, `ExtractLists`, `InlineSpots`, `InlineLists`. Shapes:
 -- `ShapedBodies`, `ValueShapes`. All together: `KeptNames`, `Fronts`, `ExtractFit`, `InlineFit`,
 -- `Fitting` (with `Fronts: is_fit`, for `plans_read`).
 pub mod StandingParts
 pub mod StandingBodies
 pub mod PrintedTypes
+pub mod NamedTypes
 pub mod LineEnds
 pub mod ExtractSpots
 pub mod Declarations

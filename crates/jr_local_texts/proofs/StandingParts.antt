@@ -33,7 +33,7 @@ grouped_back a b c d = simp append_assoc
 pub grouped_front : (a b c d : Tokens) → a ++ (b ++ (c ++ d)) ≡ (a ++ b) ++ (c ++ d)
 grouped_front a b c d = simp append_assoc
 
-all_of_it : {Part : Tokens → Type 0} (ps : Tokens) → Part ps → Among Part ps
+abbrev all_of_it : {Part : Tokens → Type 0} (ps : Tokens) → Part ps → Among Part ps
 all_of_it ps h = record { front = []; part = ps; back = []; whole = sym (append-nil ps); stands = h }
 
 abbrev pub among_first : {Part P Q : Tokens → Type 0} (ps : Tokens) → InOrder P Q ps → ((qs : Tokens) → P qs → Among Part qs) → Among Part ps

@@ -218,7 +218,7 @@ module _ (rows : List Row) (R : Region Span) (super_at : Context → ℕ) where
   bump_shaped c r base (tree.compound m op x y) o t is h = absurd is
 
   -- an expression that is rewritten so, and isn't that literal, is shaped behind no minus, too
-  behind_minus : (c : Context) (r : Role) (base : ℕ) (e : tree.Exp Span) (o : Rewritten (tree.Exp Span)) → TransformsExp itself (choosing begins rows R super_at) nowhere c r base e o → sign_level ≤ level_of e
+  pub behind_minus : (c : Context) (r : Role) (base : ℕ) (e : tree.Exp Span) (o : Rewritten (tree.Exp Span)) → TransformsExp itself (choosing begins rows R super_at) nowhere c r base e o → sign_level ≤ level_of e
       → ((m : Span) → e ≢ tree.number m 2147483648) → ShapedBehind true e → ShapedBehind false e
   unfolding TransformsExp TransformsTarget TransformsRow
   behind_minus c r base (tree.number m n) o t tight other h = fits n h (λ is. other m (ap (tree.number m) is))
@@ -333,12 +333,12 @@ mutual
   pub shaped_more : (minus : Bool) (e : tree.Exp Span) → ShapedBehind false e → ShapedBehind minus e
   shaped_more minus (tree.number m n) h = by minus
     where
+      greater : (n : ℕ) → n ≤ 2147483647 → n ≤ 2147483648
+      greater n le = omega (arith, le)
+
       by : (b : Bool) → ShapedBehind b (tree.number m n)
       by false = h
       by true = greater n h
-
-      greater : (n : ℕ) → n ≤ 2147483647 → n ≤ 2147483648
-      greater n le = omega (arith, le)
   shaped_more minus (tree.field m e w) h = (h.0, shaped_more minus e h.1)
   shaped_more minus (tree.call m to w es) h = (target_more minus to h.0, h.1)
   shaped_more minus (tree.bump m PreInc e) h = h

@@ -1,5 +1,5 @@
 -- What extract local and inline local owe the one form of refactorings, as statements.
-use Rattle.std.specs.Prelude.{◌≡◌, ℕ, List, Some, None, slice_get}
+use Rattle.std.specs.Prelude.{◌≡◌, ℕ, List, [], Some, None, slice_get}
 use Rattle.jr_text.specs.declared.spans.Span.{Span}
 use Rattle.jr_lex.specs.declared.items.Item.{Item}
 use Rattle.jr_lex.specs.Lexes.{Lexes}
@@ -31,12 +31,12 @@ pub record IsFitting (p : Program Span) (t : Transform) : Type 0 where
   pub fronted : (n : ℕ) (f : File Span) (items : List Item) → slice_get p.files n ≡ Some f
       → Lexes f.text items → Fronted (t.fronts n) items
 
--- Extract local owes nothing more, where the new name is an identifier and the type is written in
--- identifiers.
+-- Extract local owes nothing more, where the new name is an identifier, and the type's class has a
+-- spelling (16).
 abbrev pub ExtractsFit : Type 0
 ExtractsFit = (p : Program Span) → IsProgram itself (λ m b. Unit {0}) p → (file from to : ℕ)
     (name : List ℕ) → IsName name → (f : extracted.Found p file from to name)
-    → IsNamedType f.type.tree
+    → f.type.losses ≡ []
     → IsFitting p ((extracted.extract_local p file from to name).transform f)
 
 -- Inline local owes nothing more.
