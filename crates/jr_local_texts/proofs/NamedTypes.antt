@@ -85,14 +85,14 @@ module _ (rows : List Row) (named : AreNamed rows) where
   some_loss l e = cc
 
   pub type_named : (R : Region Span) → R.seen.images.rows ≡ rows → (c : Context) (at : ℕ) (m : Span) (t : Ty) (o : Rewritten (tree.TypeName Span)) → WritesType rows R c at m t o → o.losses ≡ [] → IsNamedType o.tree
-  type_named R same c at m int o w none = subst (λ z. IsNamedType z.tree) (sym w) tt
-  type_named R same c at m boolean o w none = subst (λ z. IsNamedType z.tree) (sym w) tt
-  type_named R same c at m void o w none = absurd w
-  type_named R same c at m null o w none = absurd w
-  type_named R same c at m (class k) o w none = elim w.1 [
+  type_named R rows_are c at m int o w none = subst (λ z. IsNamedType z.tree) (sym w) tt
+  type_named R rows_are c at m boolean o w none = subst (λ z. IsNamedType z.tree) (sym w) tt
+  type_named R rows_are c at m void o w none = absurd w
+  type_named R rows_are c at m null o w none = absurd w
+  type_named R rows_are c at m (class k) o w none = elim w.1 [
     | inl t ↦ subst (λ (z : Rewritten (tree.TypeName Span)). IsNamedType z.tree) (sym w.2)
         (subst (Written m k) (sym t.2) (by_form (there begins rows R c) m k t.1.place t.0 t.1.stands
-        (subst (λ rs. Binds rs (there begins rows R c) (reference ref.ClassName k.name None []) (class_decl k) t.0) same t.1.binds)))
+        (subst (λ rs. Binds rs (there begins rows R c) (reference ref.ClassName k.name None []) (class_decl k) t.0) rows_are t.1.binds)))
     | inr t ↦ absurd (lost t.1.0 t.1.2)
   ]
     where

@@ -271,7 +271,7 @@ module _ {f : tree.Exp Span} where
     list_element p _ (ways.later s ss d) ps h =
         let e = list_element (behind begins s p) ss d h.rest.front h.rest.first in
         record {
-          among = among_rest ps h (λ qs k. among_first qs k (list_element (behind begins s p) ss d));
+          among = among_rest ps h (λ qs k. among_first qs k (λ rs l. (list_element (behind begins s p) ss d rs l).among));
           front = inr (front_is e.among.front e.front);
           back = back_is e.among.back e.back;
         }
