@@ -214,14 +214,14 @@ module _ (p : Program Span) (program : IsProgram itself (λ m b. Unit {0}) p) (w
             (λ rs l. list_steps itself (choices p file from to name x (from_there p file from to name x)) nowhere W (fit (from_there p file from to name x) refl) tt (n + locals_in s) (after n c s) base ss puts.rest rs puts.rest_is l))
 
         within : (stmt_mark s).from ≤ length f.text
-        within = subst (λ y. (stmt_mark y).from ≤ length f.text) (sym is) (spots.stmt_within p program written file from to name is_name f)
+        within = subst (λ (y : statement.Stmt Span). (stmt_mark y).from ≤ length f.text) (sym is) (spots.stmt_within p program written file from to name is_name f)
 
         by_place : (q : Placed Span) × (qs : Tokens) × (ps ≡ q ∷ qs) × ((stmt_mark s).from ≡ q.mark.from) → Weaves F f.text no_indent ps o.changes (stmts_toks o.tree) no_indent
         by_place b =
             let core = init_core puts.piece puts.moves in
             let text : List ℕ = declaration_text name (printed_type f.type.tree) (with_changes f.text (exp_mark x.value) puts.piece.changes) puts.gap in
             let may = declaration_precedes (stmt_mark s) name is_name f.type.tree named_type puts.piece.tree (with_changes f.text (exp_mark x.value) puts.piece.changes) puts.gap core (init_ends puts.piece puts.moves) (gap_blank f.text (stmt_mark s).from puts.gap within puts.is_gap)
-            F f.text (stmt_mark s).from (λ k at. opens k (subst (λ y. F (stmt_mark y).from k) is at)) in
+            F f.text (stmt_mark s).from (λ k at. opens k (subst (λ (y : statement.Stmt Span). F (stmt_mark y).from k) is at)) in
             let inner = run_weaves F f.text b.0 b.1 rest_cs rest_ts (subst (λ y. Stepped W true y rest_cs rest_ts) b.2 stepped) in
             let whole = precedes F f.text b.0 b.1 text rest_cs (stmt_toks (declaration name (stmt_mark s) f.type.tree puts.piece.tree)) rest_ts no_indent
             (subst (λ m. MayPrecede F f.text m text (stmt_toks (declaration name (stmt_mark s) f.type.tree puts.piece.tree))) b.3 may) inner in

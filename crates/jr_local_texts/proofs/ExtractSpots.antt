@@ -144,7 +144,7 @@ module _ (p : Program Span) (program : IsProgram itself (λ m b. Unit {0}) p) (w
           omega (arith, from_stmt.3, begins_so, ap (λ (q : Placed Span). q.mark.from) same)
       by (q ∷ front) part e mark some =
           let begins_so : (exp_mark x.value).from ≡ some.0.mark.from = ap (λ (m : Span). m.from) mark ∙ ap first_from some.2 in
-          let parts : from_stmt.0 ∷ from_stmt.1 ≡ q ∷ (front ++ (some.0 ∷ some.1) ++ value_among.back) = sym from_stmt.2 ∙ e ∙ ap (λ y. q ∷ (front ++ (y ++ value_among.back))) some.2 in
+          let parts : from_stmt.0 ∷ from_stmt.1 ≡ q ∷ (front ++ ((some.0 ∷ some.1) ++ value_among.back)) = sym from_stmt.2 ∙ e ∙ ap (λ y. q ∷ (front ++ (y ++ value_among.back))) some.2 in
           let rest : from_stmt.1 ++ held.among.back ≡ front ++ some.0 ∷ (some.1 ++ (value_among.back ++ held.among.back)) = ap (λ y. y ++ held.among.back) (tail_same _ _ _ _ parts) ∙ grouped front (some.0 ∷ some.1) value_among.back held.among.back in
           let later = behind_others f.text there.items_there (0 + length there.front) there.rest from_stmt.0 front some.0 (some.1 ++ (value_among.back ++ held.among.back)) there.tiled (there.placed ∙ ap (λ y. from_stmt.0 ∷ y) rest) in
           omega (arith, from_stmt.3, begins_so, there.stands, later)
