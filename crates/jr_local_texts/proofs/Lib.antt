@@ -20,4 +20,5 @@ pub mod ShapedBodies
 pub mod ExtractFit
 pub mod InlineFit
 pub mod Fronts
+pub mod SpelledChanges
 pub mod Fitting

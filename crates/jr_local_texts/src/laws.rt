@@ -1,5 +1,6 @@
 //! What extract local and inline local owe the one form of refactorings.
 ghost use Rattle.jr_local_texts.specs.Fitting.{ExtractsFit, InlinesFit};
+ghost use Rattle.jr_local_texts.specs.Spelled.{SpellingsDiffer};
 
 use jr_images::rows_are_named;
 use jr_local::regions_are_sound;
@@ -27,3 +28,9 @@ pub fn inlines_fit()
     rows_are_named::<Span>();
     regions_are_sound();
 }
+
+/// Where a file is rewritten without spots, no change takes bytes away alone, and none puts a
+/// declaration. So what a plan of either puts, or takes away, its spots do.
+pub fn spellings_differ()
+    ensures { SpellingsDiffer }
+{}

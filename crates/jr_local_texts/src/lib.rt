@@ -6,9 +6,12 @@
 //! identifiers, and each token of a file may stand where it ends. So the changed files read as the
 //! new trees (`jr_plan: proofs/Planned: plans_read`).
 //!
-//! Definitions: `specs/Fitting`.
+//! [`spellings_differ`]: of the changes that spellings make, none puts a declaration and none takes
+//! bytes away alone, so a plan leaves no list's spot unused.
+//!
+//! Definitions: `specs/Fitting`, `Spelled`.
 #![tactic(auto)]
 
 mod laws;
 
-pub use laws::{extracts_fit, inlines_fit};
+pub use laws::{extracts_fit, inlines_fit, spellings_differ};
