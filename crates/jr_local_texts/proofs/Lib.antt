@@ -2,7 +2,7 @@
 -- of a file), `InlineParts` (a declaration and its reads). Texts: `PrintedTypes`, `NamedTypes`, `Declarations`,
 -- `LineEnds`. Spots: `ExtractSpots`, `ExtractLists`, `InlineSpots`, `InlineLists`. Shapes:
 -- `ShapedBodies`, `ValueShapes`. All together: `KeptNames`, `Fronts`, `ExtractFit`, `InlineFit`,
--- `Fitting` (with `Fronts: is_fit`, for `plans_read`).
+-- `Fitting` (with `Fronts: is_fit`, for `plans_read`). That spots are used: `SpotUses`, `Used`.
 pub mod StandingParts
 pub mod StandingBodies
 pub mod PrintedTypes
@@ -20,5 +20,6 @@ pub mod ShapedBodies
 pub mod ExtractFit
 pub mod InlineFit
 pub mod Fronts
-pub mod SpelledChanges
 pub mod Fitting
+pub mod SpotUses
+pub mod Used

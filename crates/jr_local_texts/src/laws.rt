@@ -1,6 +1,6 @@
 //! What extract local and inline local owe the one form of refactorings.
 ghost use Rattle.jr_local_texts.specs.Fitting.{ExtractsFit, InlinesFit};
-ghost use Rattle.jr_local_texts.specs.Spelled.{SpellingsDiffer};
+ghost use Rattle.jr_local_texts.specs.Using.{ExtractsUse, InlinesUse};
 
 use jr_images::rows_are_named;
 use jr_local::regions_are_sound;
@@ -29,8 +29,19 @@ pub fn inlines_fit()
     regions_are_sound();
 }
 
-/// Where a file is rewritten without spots, no change takes bytes away alone, and none puts a
-/// declaration. So what a plan of either puts, or takes away, its spots do.
-pub fn spellings_differ()
-    ensures { SpellingsDiffer }
-{}
+/// A plan of extract local puts the declaration by its spot, in front of the statement: of the
+/// changes that spellings make none puts one.
+pub fn extracts_use()
+    ensures { ExtractsUse }
+{
+    members_are_written::<Span>();
+    rows_are_named::<Span>();
+}
+
+/// A plan of inline local takes the declaration away by its spot: no spelling takes bytes away alone.
+pub fn inlines_use()
+    ensures { InlinesUse }
+{
+    members_are_written::<Span>();
+    rows_are_named::<Span>();
+}

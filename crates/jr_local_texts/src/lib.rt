@@ -6,12 +6,12 @@
 //! identifiers, and each token of a file may stand where it ends. So the changed files read as the
 //! new trees (`jr_plan: proofs/Planned: plans_read`).
 //!
-//! [`spellings_differ`]: of the changes that spellings make, none puts a declaration and none takes
-//! bytes away alone, so a plan leaves no list's spot unused.
+//! [`extracts_use`], [`inlines_use`]: a plan puts the declaration, or takes it away, by a list's spot,
+//! as of the changes that spellings make none puts one, and none takes bytes away alone.
 //!
-//! Definitions: `specs/Fitting`, `Spelled`.
+//! Definitions: `specs/Fitting`, `Using`.
 #![tactic(auto)]
 
 mod laws;
 
-pub use laws::{extracts_fit, inlines_fit, spellings_differ};
+pub use laws::{extracts_fit, extracts_use, inlines_fit, inlines_use};
