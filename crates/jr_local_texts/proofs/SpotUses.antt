@@ -15,6 +15,7 @@ use Rattle.jr_lex.specs.declared.items.Keyword.{Keyword as KeywordName}
 use Rattle.jr_lex.specs.declared.items.Keyword.TheVariants.{Int, Boolean}
 use Rattle.jr_lex.specs.declared.items.Symbol.TheVariants.{OpenParen}
 use Rattle.jr_lex.specs.Characters.{first_passes}
+use Rattle.jr_lex.specs.Places.{ItemsPlaced}
 use Rattle.jr_lex.specs.Words.{IsWord, IsIdentifier, keyword_text}
 use Rattle.jr_lex.specs.Replacing.{IsName}
 use Rattle.jr_lex.proofs.FirstLaws.{start-apart}
@@ -45,7 +46,7 @@ use Rattle.jr_rewrite.proofs.MemberSteps.{unit_steps}
 use Rattle.jr_rewrite.proofs.Parts as part
 use Rattle.jr_rewrite.proofs.Steps.{Step, stay, cast, swap, close, weave, olds, changes, Flow, Stepped}
 use Rattle.jr_moved_texts.proofs.Cores.{behind_symbol}
-use Rattle.jr_local.specs.Extracted.{put_declaration}
+use Rattle.jr_local.specs.Extracted.{declaration_text, put_declaration}
 use Rattle.jr_plan.specs.Transforms.{TransformsFiles}
 use Rattle.jr_local_texts.specs.Fitting.{IsNamedType}
 use Rattle.jr_local_texts.specs.Using.{UsesList}
@@ -142,7 +143,7 @@ suits_listed C V s only suit = record {
   whole_shaped = suit.whole_shaped;
 }
 
-module _ (s : Spots Span) (c : Change) (not_plain : IsPlain c → ⊥) where
+module _ (placed : ItemsPlaced) (s : Spots Span) (c : Change) (not_plain : IsPlain c → ⊥) where
   -- it is no change of a step that isn't a spot's
   other_than : (d : Change) → IsPlain d → (d ≡ c) → UsesList s c
   other_than d plain e = absurd (not_plain (subst IsPlain e plain))
@@ -182,7 +183,7 @@ module _ (s : Spots Span) (c : Change) (not_plain : IsPlain c → ⊥) where
       let r = program.reads n g at in
       let steps : Stepped (listed s) true (placed_of g.text r.items) o.changes (unit_toks o.tree) =
       unit_steps itself C (spotted s) (listed s) fit suit declarations g.unit o (placed_of g.text r.items) (ap (λ (m : Span). m.from) r.file) w r.spans in
-      finds no_indent steps.steps steps.flow (subst Rising (sym steps.olds_are) (tokens_rise g.text r.items r.lexes)) tt (subst (Has c) (sym steps.changes_are) (has_it c o.changes has))
+      finds no_indent steps.steps steps.flow (subst Rising (sym steps.olds_are) (tokens_rise g.text placed r.items r.lexes)) tt (subst (Has c) (sym steps.changes_are) (has_it c o.changes has))
 
 -- ---- how a declaration begins
 
@@ -213,8 +214,11 @@ going_not_plain gone h = h.puts refl
 
 pub declaring_not_plain : (name : List ℕ) (at : Span) (t : tree.TypeName Span) (init gap : List ℕ) → IsNamedType t → IsPlain (put_declaration name at t init gap) → ⊥
 declaring_not_plain name at t init gap named h =
-    let text : List ℕ = codes " " ++ name ++ codes " = " ++ init ++ codes ";" ++ gap in
-    both_ways (first_passes (λ b. b == 40) (chars (printed_type t ++ text))) (type_first t named text) (h.casts refl)
+    both_ways (first_passes (λ b. b == 40) (chars (declaration_text name (printed_type t) init gap)))
+    (ap (λ x. first_passes (λ b. b == 40) (chars x)) (grouped (printed_type t) name init gap) ∙ type_first t named (codes " " ++ (name ++ (codes " = " ++ (init ++ (codes ";" ++ gap)))))) (h.casts refl)
+  where
+    grouped : (a b c d : List ℕ) → a ++ codes " " ++ b ++ codes " = " ++ c ++ codes ";" ++ d ≡ a ++ (codes " " ++ (b ++ (codes " = " ++ (c ++ (codes ";" ++ d)))))
+    grouped a b c d = simp append_assoc
 
 -- ---- the rewritten file of a number
 

@@ -3,6 +3,7 @@ use Rattle.std.proofs.Common.{◌≡◌, ℕ, List, [], Some, refl, subst}
 use Rattle.std.specs.Prelude.{slice_get}
 use Rattle.std.proofs.lemmas.Bool.{eq-eqb}
 use Rattle.jr_text.specs.declared.spans.Span.{Span}
+use Rattle.jr_lex.specs.Places.{ItemsPlaced}
 use Rattle.jr_lex.specs.Replacing.{IsName}
 use Rattle.jr_ast.specs.MemberTree as syntax
 use Rattle.jr_ast.specs.Marks.{stmt_mark}
@@ -31,7 +32,7 @@ use Rattle.jr_local_texts.proofs.InlineSpots as inline_spots
 use Rattle.jr_local_texts.proofs.InlineFit as inline
 use Rattle.jr_local_texts.proofs.SpotUses.{OfLists, suits_listed, used_in_unit, file_transforms, going_not_plain, declaring_not_plain}
 
-module _ (p : Program Span) (program : IsProgram itself (λ m b. Unit {0}) p) (written : MembersAreWritten Span) (names : RowsAreNamed Span) where
+module _ (p : Program Span) (program : IsProgram itself (λ m b. Unit {0}) p) (written : MembersAreWritten Span) (names : RowsAreNamed Span) (placed : ItemsPlaced) where
   abbrev declarations : List DeclaredItem
   declarations = declarations_of begins (units_of p)
 
@@ -60,7 +61,7 @@ module _ (p : Program Span) (program : IsProgram itself (λ m b. Unit {0}) p) (w
     pub extract_uses : (files : List (Rewritten (syntax.Unit Span))) → TransformsFiles C declarations (extracted.spots_of p file from to name f.selected f.text f.items f.type) (units_of p) files
         → (puts : extracted.PutsBoth p file from to name f.selected f.text f.items f.type files) → UsesList spots (extracted.put_declaration name (stmt_mark (element f.selected).stmt) f.type.tree puts.init puts.gap)
     extract_uses files w puts =
-        used_in_unit spots (extracted.put_declaration name (stmt_mark (element f.selected).stmt) f.type.tree puts.init puts.gap) (declaring_not_plain name (stmt_mark (element f.selected).stmt) f.type.tree puts.init puts.gap named)
+        used_in_unit placed spots (extracted.put_declaration name (stmt_mark (element f.selected).stmt) f.type.tree puts.init puts.gap) (declaring_not_plain name (stmt_mark (element f.selected).stmt) f.type.tree puts.init puts.gap named)
         p program file f.is_text.0 f.is_text.1 C (extract_lists.fit p program written names file from to name is_name f (extracted.around p file from to name f.selected) refl)
         (suits_listed C (Weaves (extracted.Fronted p file from to name f.selected file) f.text) spots only suit) declarations puts.o (there files w puts.o puts.stands) puts.is_put
 
@@ -83,13 +84,13 @@ module _ (p : Program Span) (program : IsProgram itself (λ m b. Unit {0}) p) (w
     pub inline_uses : (files : List (Rewritten (syntax.Unit Span))) → TransformsFiles D declarations (inlined.spots_of p file at f.asked f.type f.text f.items f.copies f.gone) (units_of p) files
         → (takes : inlined.TakesAway p file at f.asked f.type f.gone files) → UsesList reads (change f.gone [])
     inline_uses files w takes =
-        used_in_unit reads (change f.gone []) (going_not_plain f.gone)
+        used_in_unit placed reads (change f.gone []) (going_not_plain f.gone)
         p program file f.is_text.0 f.is_text.1 D (inline_spots.fit p program written names file at f (inlined.left_out p file at f.asked f.type) refl)
         (suits_listed D (Weaves (inlined.Fronted p file at f.asked f.type f.text f.items f.copies f.gone file) f.text) reads goes_only (inline.list_suits p program written names file at f)) declarations takes.o (found_there files w takes.o takes.stands) takes.goes
 
-pub extracts_use : MembersAreWritten Span → RowsAreNamed Span → ExtractsUse
-extracts_use written names p program file from to name is_name f spelled made puts =
-    extract_uses p program written names file from to name is_name f spelled made.files made.rewritten puts
+pub extracts_use : MembersAreWritten Span → RowsAreNamed Span → ItemsPlaced → ExtractsUse
+extracts_use written names placed p program file from to name is_name f spelled made puts =
+    extract_uses p program written names placed file from to name is_name f spelled made.files made.rewritten puts
 
-pub inlines_use : MembersAreWritten Span → RowsAreNamed Span → InlinesUse
-inlines_use written names p program file at f made takes = inline_uses p program written names file at f made.files made.rewritten takes
+pub inlines_use : MembersAreWritten Span → RowsAreNamed Span → ItemsPlaced → InlinesUse
+inlines_use written names placed p program file at f made takes = inline_uses p program written names placed file at f made.files made.rewritten takes

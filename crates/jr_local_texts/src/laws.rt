@@ -3,6 +3,7 @@ ghost use Rattle.jr_local_texts.specs.Fitting.{ExtractsFit, InlinesFit};
 ghost use Rattle.jr_local_texts.specs.Using.{ExtractsUse, InlinesUse};
 
 use jr_images::rows_are_named;
+use jr_lex::items_are_placed;
 use jr_local::regions_are_sound;
 use jr_members::members_are_written;
 use jr_text::Span;
@@ -36,6 +37,7 @@ pub fn extracts_use()
 {
     members_are_written::<Span>();
     rows_are_named::<Span>();
+    items_are_placed();
 }
 
 /// A plan of inline local takes the declaration away by its spot: no spelling takes bytes away alone.
@@ -44,4 +46,5 @@ pub fn inlines_use()
 {
     members_are_written::<Span>();
     rows_are_named::<Span>();
+    items_are_placed();
 }
