@@ -54,8 +54,10 @@ module _ (p : Program Span) (program : IsProgram itself (λ m b. Unit {0}) p) (w
       let fit = lists.fit p program written names file from to name is_name f (from_there p file from to name x) refl in
       subst StmtsShaped (sym puts.tree_is) (
         piece_shaped s is h.0 puts.piece puts.moves,
-        (stmt_shaped itself (choices p file from to name x (from_there p file from to name x)) (spotted (name_spot p file from to name x f.items)) (lists.W p program written names file from to name is_name f) fit (lists.name_suits p program written names file from to name is_name f) n c base s puts.first puts.first_is h.0,
-        list_shaped itself (choices p file from to name x (from_there p file from to name x)) nowhere (lists.W p program written names file from to name is_name f) fit tt (n + locals_in s) (after n c s) base ss puts.rest puts.rest_is h.1),
+        (
+          stmt_shaped itself (choices p file from to name x (from_there p file from to name x)) (spotted (name_spot p file from to name x f.items)) (lists.W p program written names file from to name is_name f) fit (lists.name_suits p program written names file from to name is_name f) n c base s puts.first puts.first_is h.0,
+          list_shaped itself (choices p file from to name x (from_there p file from to name x)) nowhere (lists.W p program written names file from to name is_name f) fit tt (n + locals_in s) (after n c s) base ss puts.rest puts.rest_is h.1,
+        ),
       )
 
   extract_shaped : (n : ℕ) (c : Context) (base : ℕ) (xs : statement.Stmts Span) (o : Rewritten (statement.Stmts Span)) → Extracts p file from to name x f.text f.items f.type n c base xs o → StmtsShaped xs → StmtsShaped o.tree

@@ -153,9 +153,9 @@ module _ (p : Program Span) (program : IsProgram itself (λ m b. Unit {0}) p) (w
   front_token k may = elim may [
     | inl token ↦ token
     | inr made ↦ elim made.1 [
-        | inl ended ↦ absurd (no_copy k f.gone.from (parts.gone_behind p program written file at f).0 ended)
-        | inr gone ↦ absurd (omega (arith, gone.0, (parts.gone_behind p program written file at f).0, (parts.gone_behind p program written file at f).1, parts.decl_narrow p program written file at f))
-      ]
+      | inl ended ↦ absurd (no_copy k f.gone.from (parts.gone_behind p program written file at f).0 ended)
+      | inr gone ↦ absurd (omega (arith, gone.0, (parts.gone_behind p program written file at f).0, (parts.gone_behind p program written file at f).1, parts.decl_narrow p program written file at f))
+    ]
   ]
 
   fronts : (k : TokenKind) → F f.gone.from k → F f.gone.to k

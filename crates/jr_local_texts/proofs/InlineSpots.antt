@@ -91,9 +91,9 @@ module _ (p : Program Span) (program : IsProgram itself (λ m b. Unit {0}) p) (w
   read_front n copy same k may = elim may [
     | inl token ↦ inl (token_there p file copy.read.from k f.text f.items f.is_text f.lexes token)
     | inr made ↦ elim made.1 [
-        | inl ended ↦ absurd (touching ended)
-        | inr gone ↦ inr (open_ends k (parts.gone_front p program written file at f k gone.1))
-      ]
+      | inl ended ↦ absurd (touching ended)
+      | inr gone ↦ inr (open_ends k (parts.gone_front p program written file at f k gone.1))
+    ]
   ]
     where
       touching : EndsCopy p file at f.asked f.type f.text f.items f.copies copy.read.from k → ⊥

@@ -105,9 +105,9 @@ behind_token (i ∷ is) pre bytes n k tiled ends = by_place (i.span.to == n) ref
         let long : length (pre ++ f) ≡ n = omega (arith, same, to, length-append pre f) in (
           omega (arith, same, to, wide),
           ap (ends_in is_line_end) (ap (take n) whole ∙ take_at (pre ++ f) r n long)
-          ∙ ends_append is_line_end pre f (λ e. omega (arith, wide, ap length e))
-          ∙ ends_chars is_line_end line_end_ascii f tiled.3.is_text
-          ∙ token_last k (chars f) lexeme,
+              ∙ ends_append is_line_end pre f (λ e. omega (arith, wide, ap length e))
+              ∙ ends_chars is_line_end line_end_ascii f tiled.3.is_text
+              ∙ token_last k (chars f) lexeme,
         )
 
     by_place : (b : Bool) → (i.span.to == n) ≡ b → (i.span.to ≢ n → (0 < n) × (ends_in is_line_end (take n ((pre ++ tiled.0) ++ tiled.1)) ≡ false)) → (0 < n) × (ends_in is_line_end (take n (pre ++ bytes)) ≡ false)
@@ -233,9 +233,9 @@ module _ (bytes : List ℕ) (run : Tokens) (whole : Span) (lines : AreLinesOf by
   blanks k low high = elim (cases_lt k lines.back.middle) [
     | inl lt ↦ blank_at bytes k (lines.back.blanks k low lt)
     | inr le ↦ elim lines.back.ends [
-        | inl e ↦ absurd (omega (arith, le, high, e.1))
-        | inr e ↦ line_end_blank bytes lines.back.middle k e.0 e.1 le (omega (arith, high, e.2))
-      ]
+      | inl e ↦ absurd (omega (arith, le, high, e.1))
+      | inr e ↦ line_end_blank bytes lines.back.middle k e.0 e.1 le (omega (arith, high, e.2))
+    ]
   ]
 
   pub are_lines : AreLines bytes run whole

@@ -118,17 +118,17 @@ module _ {F : Fronts} {bytes : List ℕ} {items : List Item} {at : Span} {text :
   back : (ahead rest new : List ℕ) (us : List Token) → bytes ≡ ahead ++ rest → length ahead ≡ at.to → Glued new us → YieldsAt F at.to (chars rest) (chars new) → Back new us
   back ahead rest new us e l g y = elim (one_space (last_kind ts) (beginning_at at.to items)) [
     | inl none ↦ record {
-        tail = new;
-        is = ap (λ s. s ++ new) none;
-        glued = g;
-        ends = ends_still rest new (fits.back ahead rest e l (ap (λ o. space o (beginning_at at.to items)) (sym c.last_is) ∙ none)) y;
-      }
+      tail = new;
+      is = ap (λ s. s ++ new) none;
+      glued = g;
+      ends = ends_still rest new (fits.back ahead rest e l (ap (λ o. space o (beginning_at at.to items)) (sym c.last_is) ∙ none)) y;
+    }
     | inr one ↦ record {
-        tail = (32 ∷ []) ++ new;
-        is = ap (λ s. s ++ new) one;
-        glued = space_glued new us g;
-        ends = λ f lexeme. lexeme_cut (TokenItem c.last) f (chars ((32 ∷ []) ++ new)) lexeme (ends_in_space c.last new);
-      }
+      tail = (32 ∷ []) ++ new;
+      is = ap (λ s. s ++ new) one;
+      glued = space_glued new us g;
+      ends = λ f lexeme. lexeme_cut (TokenItem c.last) f (chars ((32 ∷ []) ++ new)) lexeme (ends_in_space c.last new);
+    }
   ]
 
   -- with the space in front
@@ -141,10 +141,10 @@ module _ {F : Fronts} {bytes : List ℕ} {items : List Item} {at : Span} {text :
   front_ends k may tail us g ends = elim (fits.front k may) [
     | inr any ↦ any (chars (space (ending_at at.from items) (first_kind ts) ++ (text ++ tail)))
     | inl there ↦ elim (one_space (ending_at at.from items) (first_kind ts)) [
-        | inl none ↦ subst (λ x. EndsBefore (TokenItem k) (chars (x ++ (text ++ tail)))) (sym none)
-            (c.ends tail us g ends k (beside_there k c.head ((λ i. space (sym there i) (sym c.head_is i)) ∙ none)))
-        | inr one ↦ subst (λ x. EndsBefore (TokenItem k) (chars (x ++ (text ++ tail)))) (sym one) (ends_in_space k (text ++ tail))
-      ]
+      | inl none ↦ subst (λ x. EndsBefore (TokenItem k) (chars (x ++ (text ++ tail)))) (sym none)
+          (c.ends tail us g ends k (beside_there k c.head ((λ i. space (sym there i) (sym c.head_is i)) ∙ none)))
+      | inr one ↦ subst (λ x. EndsBefore (TokenItem k) (chars (x ++ (text ++ tail)))) (sym one) (ends_in_space k (text ++ tail))
+    ]
   ]
 
   front_no_dot : (s tail : List ℕ) (us : List Token) → (s ≡ []) ⊎ (s ≡ 32 ∷ []) → Glued tail us → EndsThere c.last (chars tail) → first_passes (λ x. x == 46) (chars (s ++ (text ++ tail))) ≡ false
