@@ -40,7 +40,8 @@ pub fn extracts_use()
     items_are_placed();
 }
 
-/// A plan of inline local takes the declaration away by its spot: no spelling takes bytes away alone.
+/// A plan of inline local takes the declaration away by its spot: no spelling takes bytes away
+/// alone.
 pub fn inlines_use()
     ensures { InlinesUse }
 {

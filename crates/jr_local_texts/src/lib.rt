@@ -6,8 +6,8 @@
 //! identifiers, and each token of a file may stand where it ends. So the changed files read as the
 //! new trees (`jr_plan: proofs/Planned: plans_read`).
 //!
-//! [`extracts_use`], [`inlines_use`]: a plan puts the declaration, or takes it away, by a list's spot,
-//! as of the changes that spellings make none puts one, and none takes bytes away alone.
+//! [`extracts_use`], [`inlines_use`]: a plan puts the declaration, or takes it away, by a list's
+//! spot, as of the changes that spellings make none puts one, and none takes bytes away alone.
 //!
 //! Definitions: `specs/Fitting`, `Using`.
 #![tactic(auto)]

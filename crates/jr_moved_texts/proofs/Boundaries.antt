@@ -1,9 +1,9 @@
 -- Places of a text at which a token begins or ends: which items stand there.
-use Rattle.std.proofs.Common.{◌≡◌, ◌≢◌, ℕ, ◌+◌, ◌<◌, ◌≤◌, ◌==◌, true, false, Bool, List, [], ◌∷◌, ◌++◌, length, Option, Some, None, refl, sym, ap, ◌∙◌, subst, arith, inl, inr}
-use Rattle.std.specs.Prelude.{nat_eq, if◌then◌else◌}
+use Rattle.std.proofs.Common.{◌≡◌, ◌≢◌, ℕ, ◌+◌, ◌<◌, ◌≤◌, ◌==◌, true, false, Bool, List, [], ◌∷◌, ◌++◌, length, Option, Some, None, refl, sym, ap, ◌∙◌, subst, arith}
+use Rattle.std.specs.Prelude.{if◌then◌else◌}
 use Rattle.std.specs.Str.{chars}
 use Rattle.std.proofs.lemmas.Bool.{ne_eqb, eq-eqb, eqb-true, both_ways}
-use Rattle.std.proofs.lemmas.List.{append_assoc, append-nil, length-append}
+use Rattle.std.proofs.lemmas.List.{append_assoc, length-append}
 use Rattle.std.proofs.lemmas.Str.{chars-nil, chars-append}
 use Rattle.jr_text.specs.declared.spans.Span.{Span}
 use Rattle.jr_lex.specs.declared.items.Item.{Item}
@@ -17,7 +17,7 @@ use Rattle.jr_lex.specs.Beside.{EndsBefore, token_beside}
 use Rattle.jr_lex.proofs.BesideLaws.{lets_end}
 use Rattle.jr_lex.proofs.OneLexeme.{comment_begins}
 use Rattle.jr_lex.proofs.ScanMeaning.{no_empty}
-use Rattle.jr_grammar.specs.Tokens.{Token, Placed, placed_of}
+use Rattle.jr_grammar.specs.Tokens.{Placed, placed_of}
 use Rattle.jr_grammar.specs.Stands.{Tokens, last_to}
 use Rattle.jr_rewrite.specs.Woven.{Tiled}
 use Rattle.jr_rewrite.proofs.Skipping.{placed_at, placed_token, placed_blank, placed_comment, head_same, tail_same}

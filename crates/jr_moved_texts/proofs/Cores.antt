@@ -1,6 +1,6 @@
 -- Texts that are cut into tokens in front of any other: an identifier, a run that moves, and one in
 -- parentheses.
-use Rattle.std.proofs.Common.{◌≡◌, ◌≢◌, ◌⊎◌, inl, inr, ℕ, ◌==◌, true, false, Bool, List, [], ◌∷◌, ◌++◌, length, Option, Some, None, refl, sym, ap, ◌∙◌, subst, arith}
+use Rattle.std.proofs.Common.{◌≡◌, ◌≢◌, inl, inr, ℕ, ◌==◌, true, false, Bool, List, [], ◌∷◌, ◌++◌, length, Option, Some, None, refl, sym, ap, ◌∙◌, subst, arith}
 use Rattle.std.specs.Prelude.{codes}
 use Rattle.std.specs.Str.{IsUtf8, chars}
 use Rattle.std.proofs.lemmas.Bool.{both_ways, or_parts, eqb-true, not-true}
@@ -34,12 +34,12 @@ use Rattle.jr_rewrite.specs.Woven.{with_changes}
 use Rattle.jr_rewrite.proofs.Parts as part
 use Rattle.jr_rewrite.proofs.Steps.{Stepped}
 use Rattle.jr_rewrite.proofs.Weaving.{kept_glued}
-use Rattle.jr_moved_texts.specs.Spaces.{kind_of, first_kind, last_kind}
+use Rattle.jr_moved_texts.specs.Spaces.{kind_of, first_kind}
 use Rattle.jr_moved_texts.specs.Moved.{nowhere_weaves, EndsWith, EndsThere, RunStands, Moves}
 use Rattle.jr_moved_texts.proofs.MovedRuns.{runs_move, kind_there}
 use Rattle.jr_moved_texts.proofs.Spaced.{Core}
 use Rattle.jr_moved_texts.proofs.StepEnds.{stepped_last}
-use Rattle.jr_moved_texts.proofs.ExpressionEnds.{begins_no_dot, Head, Last, last_some}
+use Rattle.jr_moved_texts.proofs.ExpressionEnds.{begins_no_dot, Head, last_some}
 
 -- ---- no dot
 

@@ -1,19 +1,15 @@
 -- The first and the last token of an expression: which may stand beside a comment, and no dot.
-use Rattle.std.proofs.Common.{◌≡◌, ◌≢◌, ℕ, true, false, not, Bool, List, [], ◌∷◌, ◌++◌, Option, Some, None, refl, sym, ap, ◌∙◌, subst}
-use Rattle.jr_text.specs.declared.spans.Span.{Span}
+use Rattle.std.proofs.Common.{◌≡◌, ◌≢◌, ℕ, true, not, Bool, List, [], ◌∷◌, ◌++◌, Option, Some, None, refl}
 use Rattle.jr_lex.specs.declared.items.TokenKind.{TokenKind}
-use Rattle.jr_lex.specs.declared.items.TokenKind.TheVariants.{Word, Keyword, Int, Text, Mark}
-use Rattle.jr_lex.specs.declared.items.Keyword.{Keyword as KeywordName}
+use Rattle.jr_lex.specs.declared.items.TokenKind.TheVariants.{Mark}
 use Rattle.jr_lex.specs.declared.items.Keyword.TheVariants.{Class, New, Super, This, Null}
 use Rattle.jr_lex.specs.declared.items.Keyword.TheVariants as keyword_name
-use Rattle.jr_lex.specs.declared.items.Symbol.{Symbol}
 use Rattle.jr_lex.specs.declared.items.Symbol.TheVariants.{OpenParen, CloseParen, Dot, PlusPlus, MinusMinus, Slash, Semicolon, Equals}
 use Rattle.jr_lex.specs.Beside.{token_beside, begins_with_dot}
-use Rattle.jr_ast.specs.declared.operators.UnOp.{UnOp}
 use Rattle.jr_ast.specs.declared.operators.UnOp.TheVariants.{Plus, Minus, Not}
 use Rattle.jr_ast.specs.declared.operators.BumpOp.TheVariants.{PreInc, PreDec, PostInc, PostDec}
 use Rattle.jr_ast.specs.Tree as tree
-use Rattle.jr_grammar.specs.Tokens.{Token, word, keyword, integer, text, symbol, Placed, kinds}
+use Rattle.jr_grammar.specs.Tokens.{Token, word, keyword, integer, text, symbol, kinds}
 use Rattle.jr_grammar.specs.Stands.{Tokens}
 use Rattle.jr_grammar.specs.Spelling.{unary_symbol, binary_symbol, compound_symbol, truth_keyword, type_toks, toks, target_toks, args_toks}
 use Rattle.jr_moved_texts.specs.Spaces.{kind_of, first_kind, last_kind}

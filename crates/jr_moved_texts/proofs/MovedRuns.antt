@@ -10,23 +10,21 @@ use Rattle.jr_lex.specs.declared.items.ItemKind.{ItemKind}
 use Rattle.jr_lex.specs.declared.items.ItemKind.TheVariants.{Token as TokenItem, Blank, Comment}
 use Rattle.jr_lex.specs.declared.items.TokenKind.{TokenKind}
 use Rattle.jr_lex.specs.declared.items.TokenKind.TheVariants.{Word, Keyword, Int, Text, Mark}
-use Rattle.jr_lex.specs.Lexes.{span_of as between}
 use Rattle.jr_lex.specs.Lexemes.{IsLexeme}
 use Rattle.jr_lex.specs.Beside.{EndsBefore, token_beside, join_pieces, items_from}
 use Rattle.jr_lex.proofs.BesideLaws.{lets_end}
-use Rattle.jr_lex.proofs.ScanMeaning.{no_empty}
-use Rattle.jr_grammar.specs.Tokens.{Token, Placed, token_of_kind, placed_of, kinds}
+use Rattle.jr_grammar.specs.Tokens.{Placed, token_of_kind, placed_of, kinds}
 use Rattle.jr_grammar.specs.Stands.{Tokens, last_to, span_of}
 use Rattle.jr_splice.proofs.Gluing.{Glued}
 use Rattle.jr_rewrite.specs.Respellings.{Change}
 use Rattle.jr_rewrite.specs.Woven.{YieldsAt, Tiled, Fit, join_changes, with_changes, anything, Woven, Weaves}
-use Rattle.jr_rewrite.proofs.Steps.{Stepped, olds, changes, news, end_of}
-use Rattle.jr_rewrite.proofs.Skipping.{placed_at, placed_token, placed_blank, placed_comment, head_same, tail_same, tiled_further}
+use Rattle.jr_rewrite.proofs.Steps.{olds, changes, news, end_of}
+use Rattle.jr_rewrite.proofs.Skipping.{placed_at, placed_token, placed_blank, placed_comment, head_same, tail_same}
 use Rattle.jr_rewrite.proofs.Moved.{RunAlone, run_alone}
 use Rattle.jr_rewrite.proofs.Woven.{rest_woven, steps_weave}
 use Rattle.jr_rewrite.proofs.Weaving.{woven_glued}
 use Rattle.jr_moved_texts.specs.Spaces.{kind_of}
-use Rattle.jr_moved_texts.specs.Moved.{anywhere, EndsWith, RunStands, Moves, RunsMove}
+use Rattle.jr_moved_texts.specs.Moved.{anywhere, EndsWith, RunsMove}
 use Rattle.jr_moved_texts.proofs.Tiling.{pieces_tiled, EndsIn, tiled_before, placed_append, placed_more, pieces_kinds, no_weaving, unchanged, some_lexeme}
 
 -- ---- changes in front of more text

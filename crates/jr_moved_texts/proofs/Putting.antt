@@ -1,6 +1,6 @@
 -- A run is replaced by a text, or a text is put in front of it: one that is cut into tokens in front
 -- of whatever is woven behind it.
-use Rattle.std.proofs.Common.{◌≡◌, ℕ, ◌-◌, ◌≤◌, take, drop, List, [], ◌∷◌, ◌++◌, length, refl, sym, ap, ◌∙◌, subst, arith, inr}
+use Rattle.std.proofs.Common.{◌≡◌, ℕ, ◌-◌, ◌≤◌, take, drop, List, [], ◌∷◌, ◌++◌, length, sym, ap, ◌∙◌, subst, arith, inr}
 use Rattle.std.specs.Prelude.{slice_range}
 use Rattle.std.specs.Str.{IsUtf8, chars}
 use Rattle.std.proofs.lemmas.List.{append_assoc}

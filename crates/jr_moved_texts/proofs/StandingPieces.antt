@@ -11,8 +11,8 @@ use Rattle.jr_lex.specs.declared.items.Symbol.TheVariants.{Slash}
 use Rattle.jr_lex.specs.Lexes.{Lexes}
 use Rattle.jr_lex.specs.Beside.{EndsBefore, token_beside}
 use Rattle.jr_ast.specs.Tree as tree
-use Rattle.jr_grammar.specs.Tokens.{Token, Placed, placed_of, kinds}
-use Rattle.jr_grammar.specs.Layout.{itself, spans_from}
+use Rattle.jr_grammar.specs.Tokens.{Placed, placed_of, kinds}
+use Rattle.jr_grammar.specs.Layout.{itself}
 use Rattle.jr_grammar.specs.Stands.{Tokens, last_to, Stands}
 use Rattle.jr_grammar.specs.Spelling.{toks}
 use Rattle.jr_grammar.specs.ExpressionLayout.{exp_layout}

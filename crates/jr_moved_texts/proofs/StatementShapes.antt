@@ -1,5 +1,5 @@
 -- Rewritten statements are shaped where the old ones are. (jr_rewrite has this for itself alone.)
-use Rattle.std.proofs.Common.{◌≡◌, inl, inr, ℕ, ◌+◌, true, false, Option, Some, None, sym, subst}
+use Rattle.std.proofs.Common.{inl, inr, ℕ, ◌+◌, false, Option, Some, None, sym, subst}
 use Rattle.jr_text.specs.declared.spans.Span.{Span}
 use Rattle.jr_ast.specs.Tree as tree
 use Rattle.jr_ast.specs.StatementTree as statement

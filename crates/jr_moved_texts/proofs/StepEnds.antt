@@ -1,5 +1,5 @@
 -- Steps without spots keep the kind of the last token.
-use Rattle.std.proofs.Common.{◌≡◌, ℕ, false, List, [], ◌∷◌, ◌++◌, Option, Some, None, refl, sym, ap, ◌∙◌, subst}
+use Rattle.std.proofs.Common.{◌≡◌, ℕ, false, List, [], ◌∷◌, ◌++◌, Some, refl, sym, ap, ◌∙◌, subst}
 use Rattle.std.proofs.lemmas.List.{append-nil}
 use Rattle.jr_text.specs.declared.spans.Span.{Span}
 use Rattle.jr_lex.specs.declared.items.TokenKind.{TokenKind}
@@ -9,7 +9,7 @@ use Rattle.jr_grammar.specs.Stands.{Tokens, last_to}
 use Rattle.jr_rewrite.specs.Respellings.{Change, Front, same, alone, by_this, by_super, by_cast_this, by_class, by_outer_class, by_cast}
 use Rattle.jr_rewrite.specs.Woven.{Behind, anything, token_to}
 use Rattle.jr_rewrite.proofs.Parts.{tokens, respelled_parts, cast_parts}
-use Rattle.jr_rewrite.proofs.Steps.{Step, stay, cast, swap, close, weave, olds, news, BeginAt, BeginWordLike, IsWord, EndInWord, Flow, Stepped}
+use Rattle.jr_rewrite.proofs.Steps.{Step, stay, cast, swap, close, weave, olds, news, BeginAt, IsWord, EndInWord, Flow, Stepped}
 use Rattle.jr_moved_texts.specs.Spaces.{kind_of, last_kind}
 use Rattle.jr_moved_texts.specs.Moved.{nowhere_weaves, EndsWith}
 use Rattle.jr_moved_texts.proofs.ExpressionEnds.{last_some}

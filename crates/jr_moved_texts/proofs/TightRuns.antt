@@ -1,11 +1,11 @@
 -- A run of statements whose spots are expressions alone: it may begin anywhere, also in its indent.
-use Rattle.std.proofs.Common.{◌≡◌, ℕ, true, List, [], ◌∷◌, ◌++◌, refl, sym, ap, ◌∙◌, subst}
+use Rattle.std.proofs.Common.{◌≡◌, ℕ, true, List, [], ◌∷◌, ◌++◌, sym, subst}
 use Rattle.jr_text.specs.declared.spans.Span.{Span}
 use Rattle.jr_grammar.specs.Tokens.{Token, Placed}
 use Rattle.jr_grammar.specs.Stands.{Tokens, last_to}
 use Rattle.jr_rewrite.specs.Respellings.{Change}
 use Rattle.jr_rewrite.specs.Woven.{Fronts, Behind, anything, no_indent, token_to, WovenFrom, Weaving, Weaves}
-use Rattle.jr_rewrite.proofs.Steps.{Step, stay, cast, swap, close, weave, olds, changes, news, end_of, IsKnown, Suffices, Flow, known_end, Stepped}
+use Rattle.jr_rewrite.proofs.Steps.{Step, stay, cast, swap, close, weave, olds, changes, end_of, IsKnown, Suffices, Flow, known_end, Stepped}
 use Rattle.jr_rewrite.proofs.Woven.{steps_weave}
 use Rattle.jr_rewrite.proofs.SpotWeaving.{woven_so}
 

@@ -1,6 +1,6 @@
 -- Lexemes as items with their bytes; a run of items in front of another text; tokens that stay.
-use Rattle.std.proofs.Common.{◌≡◌, ◌≢◌, ℕ, ◌+◌, ◌==◌, false, true, List, [], ◌∷◌, ◌++◌, length, map, Option, Some, None, refl, sym, ap, ◌∙◌, subst, arith}
-use Rattle.std.specs.Str.{IsUtf8, chars}
+use Rattle.std.proofs.Common.{◌≡◌, ◌≢◌, ℕ, ◌+◌, ◌==◌, List, [], ◌∷◌, ◌++◌, length, Option, Some, None, refl, sym, ap, ◌∙◌, subst, arith}
+use Rattle.std.specs.Str.{chars}
 use Rattle.std.proofs.lemmas.Bool.{both_ways, false≢true}
 use Rattle.std.proofs.lemmas.List.{append_assoc, append-nil, length-append}
 use Rattle.std.proofs.lemmas.Str.{chars-append}
@@ -17,7 +17,6 @@ use Rattle.jr_lex.specs.Words.{IsWord as IsWordText}
 use Rattle.jr_lex.specs.Symbols.{symbol_text}
 use Rattle.jr_lex.specs.Lexemes.{IsLexeme}
 use Rattle.jr_lex.specs.Lexes.{Lexes, span_of as between}
-use Rattle.jr_lex.specs.Replacing.{item_of}
 use Rattle.jr_lex.specs.Beside.{Piece, join_pieces, items_from}
 use Rattle.jr_lex.specs.Near.{IsCut}
 use Rattle.jr_lex.proofs.ScanMeaning.{no_empty}
@@ -25,11 +24,10 @@ use Rattle.jr_lex.proofs.FirstLaws.{other-start}
 use Rattle.jr_lex.proofs.WordLaws.{keyword-IsWord}
 use Rattle.jr_lex.proofs.OneLexeme.{cut_near}
 use Rattle.jr_lex.proofs.Yields.{near_run, same_line}
-use Rattle.jr_grammar.specs.Tokens.{Token, Placed, token_of, placed_of, with_placed, kinds}
+use Rattle.jr_grammar.specs.Tokens.{Token, token_of, placed_of, with_placed, kinds}
 use Rattle.jr_grammar.specs.Stands.{Tokens, last_to}
 use Rattle.jr_splice.specs.Cutting.{own_token, with_token, tokens_in}
 use Rattle.jr_splice.proofs.Cut.{AreCut, own_inside}
-use Rattle.jr_rewrite.specs.Respellings.{Change}
 use Rattle.jr_rewrite.specs.Woven.{MayFront, Fronted, IsTile, Tiled, Woven, Behind, anything, token_to, WovenFrom, Weaving, Weaves}
 use Rattle.jr_rewrite.proofs.Tiles.{tiled_text, lexes_tiled}
 use Rattle.jr_rewrite.proofs.Skipping.{tiled_further}

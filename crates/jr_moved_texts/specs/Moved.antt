@@ -47,8 +47,8 @@ pub record RunStands (bytes : List ℕ) (p : Placed Span) (run : Tokens) : Type 
 abbrev pub EndsThere : TokenKind → List ℕ → Type 0
 EndsThere k new = (f : List ℕ) → IsLexeme (TokenItem k) f → IsCut (TokenItem k) f new
 
--- What the run becomes by its changes, in front of a text that is cut into tokens: it is cut into its
--- tokens and these, and what might stand in front of the run, there, may stand in front of it.
+-- What the run becomes by its changes, in front of a text that is cut into tokens: it is cut into
+-- its tokens and these, and what might stand in front of the run, there, may stand in front of it.
 pub record Moves (bytes : List ℕ) (p : Placed Span) (run : Tokens) (cs : List Change)
     (ts : List Token) (new : List ℕ) (us : List Token) : Type 0 where
   pub old : List ℕ
