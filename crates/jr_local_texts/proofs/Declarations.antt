@@ -1,5 +1,5 @@
 -- A declaration in front of a statement: its text is cut into its tokens, whatever stands behind it.
-use Rattle.std.proofs.Common.{◌≡◌, ◌⊎◌, inl, inr, ℕ, ◌+◌, ◌-◌, ◌<◌, ◌≤◌, ◌==◌, true, false, List, [], ◌∷◌, ◌++◌, length, take, drop, refl, sym, ap, ◌∙◌, subst, arith}
+use Rattle.std.proofs.Common.{◌≡◌, inl, inr, ℕ, ◌≤◌, ◌==◌, true, List, [], ◌∷◌, ◌++◌, length, refl, sym, ap, ◌∙◌, subst, arith}
 use Rattle.std.specs.Prelude.{codes, slice_range, slice_index}
 use Rattle.std.specs.Str.{chars}
 use Rattle.std.proofs.lemmas.Bool.{and_parts, and_from}
@@ -7,31 +7,27 @@ use Rattle.std.proofs.lemmas.List.{append_assoc, append-nil}
 use Rattle.jr_text.specs.declared.spans.Span.{Span}
 use Rattle.jr_lex.specs.declared.items.ItemKind.TheVariants.{Token as TokenItem, Blank}
 use Rattle.jr_lex.specs.declared.items.TokenKind.{TokenKind}
-use Rattle.jr_lex.specs.declared.items.TokenKind.TheVariants.{Word, Mark}
+use Rattle.jr_lex.specs.declared.items.TokenKind.TheVariants.{Mark}
 use Rattle.jr_lex.specs.declared.items.Symbol.TheVariants.{Equals, Semicolon}
 use Rattle.jr_lex.specs.Characters.{is_blank, all_pass, first_passes}
-use Rattle.jr_lex.specs.Lexemes.{IsLexeme}
 use Rattle.jr_lex.specs.Replacing.{IsName}
 use Rattle.jr_lex.specs.Beside.{Piece, EndsBefore, token_beside}
 use Rattle.jr_lex.specs.Near.{IsCut}
 use Rattle.jr_lex.proofs.BesideLaws.{lets_end}
 use Rattle.jr_lex.proofs.OneLexeme.{lexeme_cut}
 use Rattle.jr_ast.specs.Tree as tree
-use Rattle.jr_ast.specs.StatementTree as statement
 use Rattle.jr_grammar.specs.Tokens.{Token, word, symbol}
 use Rattle.jr_grammar.specs.Spelling.{toks, type_toks}
 use Rattle.jr_grammar.specs.StatementSpelling.{stmt_toks}
-use Rattle.jr_splice.specs.Cutting.{AreCutBefore}
 use Rattle.jr_splice.proofs.Gluing.{Glued, glue}
 use Rattle.jr_layout.specs.declared.lines.LineEnd.{LineEnd}
 use Rattle.jr_layout.specs.declared.lines.LineEnd.TheVariants.{Lf, Cr, CrLf}
 use Rattle.jr_layout.specs.Lines.{line_end_bytes, IsSpaceOrTab}
-use Rattle.jr_layout.specs.Layouts.{IsGap, IsNewLine}
+use Rattle.jr_layout.specs.Layouts.{IsGap}
 use Rattle.jr_print.specs.ExpressionText.{printed_type}
-use Rattle.jr_rewrite.specs.Woven.{Fronts, YieldsAt}
+use Rattle.jr_rewrite.specs.Woven.{Fronts}
 use Rattle.jr_rewrite.proofs.BlankBytes.{blank_text, blank_chars, pass_slice}
 use Rattle.jr_local.specs.Extracted.{declaration, declaration_text}
-use Rattle.jr_moved_texts.specs.Spaces.{kind_of, first_kind}
 use Rattle.jr_moved_texts.specs.Moved.{EndsThere}
 use Rattle.jr_moved_texts.proofs.Spaced.{Core, space_glued, ends_in_space, ends_yield}
 use Rattle.jr_moved_texts.proofs.Cores.{name_core, symbol_glued, behind_symbol}

@@ -1,12 +1,11 @@
 -- Extract local's spots suit the files' texts.
-use Rattle.std.proofs.Common.{◌≡◌, ◌⊎◌, inl, inr, ℕ, ◌+◌, ◌≤◌, Bool, true, false, List, [], ◌∷◌, ◌++◌, length, Option, Some, None, refl, sym, ap, ◌∙◌, subst}
+use Rattle.std.proofs.Common.{◌≡◌, ℕ, ◌+◌, ◌≤◌, Bool, true, false, List, Option, Some, refl, sym, ap, ◌∙◌, subst}
 use Rattle.std.specs.Prelude.{nat_eq, slice_get}
 use Rattle.std.proofs.lemmas.Bool.{eqb-true}
 use Rattle.jr_text.specs.declared.spans.Span.{Span}
 use Rattle.jr_lex.specs.Replacing.{IsName}
 use Rattle.jr_ast.specs.Tree as tree
 use Rattle.jr_ast.specs.StatementTree as statement
-use Rattle.jr_ast.specs.Marks.{exp_mark, stmt_mark}
 use Rattle.jr_grammar.specs.Layout.{itself}
 use Rattle.jr_grammar.specs.Shape.{sign_level, level_of, ShapedBehind}
 use Rattle.jr_grammar.specs.StatementShape.{StmtShaped, StmtsShaped}

@@ -1,6 +1,5 @@
 -- Extract local: the declaration comes in front of the statement, whose expression becomes the name.
-use Rattle.std.proofs.Common.{◌≡◌, ◌⊎◌, inl, inr, ℕ, ◌+◌, ◌<◌, ◌≤◌, Bool, true, false, List, [], ◌∷◌, ◌++◌, length, Option, Some, None, refl, sym, ap, ◌∙◌, subst, arith}
-use Rattle.std.proofs.lemmas.List.{append_assoc, append-nil}
+use Rattle.std.proofs.Common.{◌≡◌, inl, inr, ℕ, ◌+◌, ◌≤◌, true, false, List, ◌∷◌, ◌++◌, length, Some, refl, sym, ap, ◌∙◌, subst, arith}
 use Rattle.jr_text.specs.declared.spans.Span.{Span}
 use Rattle.jr_lex.specs.declared.items.TokenKind.{TokenKind}
 use Rattle.jr_lex.specs.declared.items.TokenKind.TheVariants.{Mark}
@@ -13,7 +12,6 @@ use Rattle.jr_ast.specs.declared.operators.BinOp.TheVariants as operator
 use Rattle.jr_ast.specs.declared.operators.BumpOp.TheVariants.{PreInc, PreDec, PostInc, PostDec}
 use Rattle.jr_ast.specs.Tree as tree
 use Rattle.jr_ast.specs.StatementTree as statement
-use Rattle.jr_ast.specs.MemberTree as syntax
 use Rattle.jr_ast.specs.Marks.{exp_mark, stmt_mark}
 use Rattle.jr_grammar.specs.Tokens.{Token, Placed, placed_of}
 use Rattle.jr_grammar.specs.Layout.{itself, spans_from}
@@ -22,12 +20,10 @@ use Rattle.jr_grammar.specs.Stands.{Tokens, last_to, Stands}
 use Rattle.jr_grammar.specs.Spelling.{toks}
 use Rattle.jr_grammar.specs.StatementSpelling.{stmt_toks, stmts_toks}
 use Rattle.jr_grammar.specs.ExpressionLayout.{exp_layout}
-use Rattle.jr_grammar.specs.StatementLayout.{stmt_layout, stmts_layout}
+use Rattle.jr_grammar.specs.StatementLayout.{stmts_layout}
 use Rattle.jr_grammar.proofs.Layouts.{spans_from-span}
-use Rattle.jr_table.specs.Rows.{Row}
-use Rattle.jr_table.specs.Binding.{Role, value}
+use Rattle.jr_table.specs.Binding.{value}
 use Rattle.jr_table.specs.Context.{Context, after, locals_in}
-use Rattle.jr_table.specs.Keys.{ClassKey}
 use Rattle.jr_members.specs.WrittenLaws.{MembersAreWritten}
 use Rattle.jr_bind.specs.Programs.{Program, IsProgram}
 use Rattle.jr_images.specs.NamedImages.{AreNamedImages}
@@ -37,7 +33,7 @@ use Rattle.jr_images.specs.TextLaws.{RowsAreNamed}
 use Rattle.jr_images.proofs.SuitableSpelling.{choosing_suits}
 use Rattle.jr_rewrite.specs.Respellings.{Change}
 use Rattle.jr_rewrite.specs.Rewritten.{Rewritten, change, before}
-use Rattle.jr_rewrite.specs.Spots.{Asks, level, a_target, a_statement, Takes, nowhere, spotted}
+use Rattle.jr_rewrite.specs.Spots.{Asks, level, Takes, nowhere, spotted}
 use Rattle.jr_rewrite.specs.Suitable.{AreSuitable}
 use Rattle.jr_rewrite.specs.SuitableSpots.{AreSuitableSpots}
 use Rattle.jr_rewrite.specs.Woven.{Fronts, Weaving, Weaves, anything, no_indent, token_to, with_changes}
@@ -47,10 +43,9 @@ use Rattle.jr_rewrite.proofs.ExpressionSteps.{exp_steps}
 use Rattle.jr_rewrite.proofs.StatementSteps.{stmt_steps, list_steps}
 use Rattle.jr_rewrite.proofs.SpotWeaving.{woven_so}
 use Rattle.jr_local.specs.Bodies.{begins}
-use Rattle.jr_local.specs.Texts.{HasText, EndsToken}
 use Rattle.jr_local.specs.Scopes.{same_images}
 use Rattle.jr_local.specs.Selecting.{Selected, element, at_value}
-use Rattle.jr_local.specs.Extracted.{name_tree, named, declaration, declaration_text, choices, around, from_there, of_piece, Moves, name_spot, Puts, Extracts, Found, Fronted}
+use Rattle.jr_local.specs.Extracted.{name_tree, declaration, declaration_text, choices, from_there, of_piece, Moves, name_spot, Puts, Extracts, Found, Fronted}
 use Rattle.jr_moved_texts.specs.Spaces.{ending_at}
 use Rattle.jr_moved_texts.specs.Moved.{nowhere_weaves}
 use Rattle.jr_moved_texts.proofs.Tiling.{text_tiled}

@@ -1,7 +1,5 @@
 -- Extract local: the name in the expression's place, and the declaration in front of the statement.
-use Rattle.std.proofs.Common.{◌≡◌, ◌≢◌, ◌⊎◌, inl, inr, ℕ, ◌+◌, ◌<◌, ◌≤◌, true, false, List, [], ◌∷◌, ◌++◌, length, Option, Some, None, refl, sym, ap, ◌∙◌, subst, arith}
-use Rattle.std.specs.Prelude.{codes, slice_get}
-use Rattle.std.specs.Str.{chars}
+use Rattle.std.proofs.Common.{◌≡◌, inl, inr, ℕ, ◌+◌, ◌<◌, ◌≤◌, false, List, [], ◌∷◌, ◌++◌, length, Option, Some, refl, sym, ap, ◌∙◌, subst, arith}
 use Rattle.std.proofs.lemmas.List.{append_assoc, length-append}
 use Rattle.jr_text.specs.declared.spans.Span.{Span}
 use Rattle.jr_lex.specs.declared.items.Item.{Item}
@@ -12,15 +10,13 @@ use Rattle.jr_lex.specs.declared.items.Symbol.TheVariants.{OpenBrace, CloseBrace
 use Rattle.jr_lex.specs.Characters.{first_passes}
 use Rattle.jr_lex.specs.Lexes.{Lexes}
 use Rattle.jr_lex.specs.Replacing.{IsName}
-use Rattle.jr_lex.specs.Beside.{EndsBefore, goes_on}
+use Rattle.jr_lex.specs.Beside.{EndsBefore}
 use Rattle.jr_lex.proofs.CutLaws.{one_lexing}
-use Rattle.jr_ast.specs.Tree as tree
 use Rattle.jr_ast.specs.StatementTree as statement
 use Rattle.jr_ast.specs.Marks.{exp_mark, stmt_mark}
-use Rattle.jr_grammar.specs.Tokens.{Token, word, keyword, integer, text as string_token, symbol, Placed, placed_of}
+use Rattle.jr_grammar.specs.Tokens.{word, Placed, placed_of}
 use Rattle.jr_grammar.specs.Layout.{itself, spans_from}
 use Rattle.jr_grammar.specs.Stands.{Tokens, first_from, last_to, span_of, Stands}
-use Rattle.jr_grammar.specs.Spelling.{toks}
 use Rattle.jr_grammar.specs.ExpressionLayout.{exp_layout}
 use Rattle.jr_grammar.specs.StatementLayout.{stmts_layout}
 use Rattle.jr_grammar.proofs.Layouts.{spans_from-span}
@@ -31,7 +27,6 @@ use Rattle.jr_rewrite.specs.Rewritten.{change}
 use Rattle.jr_rewrite.proofs.Skipping.{head_same, tail_same}
 use Rattle.jr_rewrite.proofs.Stepping.{IsSome}
 use Rattle.jr_rewrite.proofs.ExpressionSteps.{exp_some}
-use Rattle.jr_local.specs.Bodies.{begins}
 use Rattle.jr_local.specs.Texts.{HasText, EndsToken}
 use Rattle.jr_local.specs.Selecting.{Selected, element}
 use Rattle.jr_local.specs.Extracted.{named, Found, Fronted}

@@ -1,18 +1,15 @@
 -- Extract local and inline local owe nothing more.
-use Rattle.std.proofs.Common.{ℕ, List, [], inl, refl}
+use Rattle.std.proofs.Common.{[], inl, refl}
 use Rattle.jr_text.specs.declared.spans.Span.{Span}
-use Rattle.jr_lex.specs.Replacing.{IsName}
 use Rattle.jr_ast.specs.Marks.{stmt_mark}
-use Rattle.jr_grammar.specs.Layout.{itself}
 use Rattle.jr_members.specs.WrittenLaws.{MembersAreWritten}
-use Rattle.jr_bind.specs.Programs.{Program, IsProgram, units_of}
 use Rattle.jr_images.specs.TextLaws.{RowsAreNamed}
-use Rattle.jr_local.specs.Soundness.{RegionsAreSound, HaveNoDots}
+use Rattle.jr_local.specs.Soundness.{RegionsAreSound}
 use Rattle.jr_local.specs.Selecting.{element}
 use Rattle.jr_local.specs.Extracted as extracted
 use Rattle.jr_local.specs.Inlined as inlined
 use Rattle.jr_moved_texts.proofs.Tiling.{text_tiled}
-use Rattle.jr_local_texts.specs.Fitting.{IsFitting, ExtractsFit, InlinesFit}
+use Rattle.jr_local_texts.specs.Fitting.{ExtractsFit, InlinesFit}
 use Rattle.jr_local_texts.proofs.KeptNames.{rows_named, rows_undotted, same_named}
 use Rattle.jr_local_texts.proofs.NamedTypes.{type_named}
 use Rattle.jr_local_texts.proofs.Fronts.{fronted_from}

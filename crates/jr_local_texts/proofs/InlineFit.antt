@@ -1,13 +1,13 @@
 -- Inline local's spots suit the files' texts.
-use Rattle.std.proofs.Common.{◌≡◌, ◌⊎◌, inl, inr, ℕ, ◌+◌, ◌≤◌, Bool, true, false, List, [], ◌∷◌, ◌++◌, length, Option, Some, None, refl, sym, ap, ◌∙◌, subst, arith}
-use Rattle.std.specs.Prelude.{nat_eq, slice_get, Contains}
+use Rattle.std.proofs.Common.{◌≡◌, inl, inr, ℕ, ◌+◌, Bool, true, false, Option, Some, refl, sym, ap, ◌∙◌, subst, arith}
+use Rattle.std.specs.Prelude.{nat_eq, slice_get}
 use Rattle.std.proofs.lemmas.Bool.{eqb-true}
 use Rattle.jr_text.specs.declared.spans.Span.{Span}
 use Rattle.jr_ast.specs.Tree as tree
 use Rattle.jr_ast.specs.StatementTree as statement
-use Rattle.jr_ast.specs.Marks.{exp_mark, stmt_mark}
+use Rattle.jr_ast.specs.Marks.{exp_mark}
 use Rattle.jr_grammar.specs.Layout.{itself}
-use Rattle.jr_grammar.specs.Shape.{primary_level, level_of, ShapedBehind}
+use Rattle.jr_grammar.specs.Shape.{ShapedBehind}
 use Rattle.jr_grammar.specs.StatementShape.{StmtShaped, StmtsShaped}
 use Rattle.jr_table.specs.Binding.{value}
 use Rattle.jr_table.specs.Context.{Context, after, locals_in}
@@ -21,8 +21,8 @@ use Rattle.jr_rewrite.specs.Woven.{Fronts, Weaves}
 use Rattle.jr_rewrite.proofs.ExpressionShapes.{exp_shaped}
 use Rattle.jr_plan.specs.Transforms.{Transform, choosing_of}
 use Rattle.jr_local.specs.Scopes.{in_copy}
-use Rattle.jr_local.specs.Inlining.{Declared, element, Naming, at_init, known_at}
-use Rattle.jr_local.specs.Inlined.{Copy, in_parentheses, Becomes, left_out, choices, IsCopyAt, Reads, read_spot, Goes, Inlines, list_spot, spots_if, Found, Fronted, inline_local}
+use Rattle.jr_local.specs.Inlining.{Declared, Naming, at_init, known_at}
+use Rattle.jr_local.specs.Inlined.{Copy, in_parentheses, Becomes, left_out, choices, IsCopyAt, read_spot, Inlines, list_spot, spots_if, Found, Fronted, inline_local}
 use Rattle.jr_moved_texts.specs.Moved.{nowhere_weaves}
 use Rattle.jr_moved_texts.proofs.StatementShapes.{list_shaped}
 use Rattle.jr_local_texts.proofs.ExtractLists.{no_higher}

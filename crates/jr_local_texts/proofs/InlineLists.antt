@@ -1,5 +1,5 @@
 -- Inline local: the declaration goes, and what stands behind it takes its place.
-use Rattle.std.proofs.Common.{◌≡◌, ◌⊎◌, inl, inr, ℕ, ◌+◌, ◌<◌, ◌-◌, ◌≤◌, ◌==◌, Bool, true, false, List, [], ◌∷◌, ◌++◌, length, take, drop, Option, Some, None, refl, sym, ap, ◌∙◌, subst, arith}
+use Rattle.std.proofs.Common.{◌≡◌, inl, inr, ℕ, ◌+◌, ◌<◌, ◌-◌, ◌≤◌, ◌==◌, true, false, List, [], ◌∷◌, ◌++◌, length, take, drop, Option, Some, None, refl, sym, ap, ◌∙◌, subst, arith}
 use Rattle.std.specs.Prelude.{slice_range}
 use Rattle.std.specs.Str.{chars}
 use Rattle.std.proofs.lemmas.List.{append_assoc, append-nil, length-append, drop_at, take-append-drop, length-take-le}
@@ -7,19 +7,17 @@ use Rattle.jr_text.specs.declared.spans.Span.{Span}
 use Rattle.jr_lex.specs.declared.items.ItemKind.TheVariants.{Token as TokenItem}
 use Rattle.jr_lex.specs.declared.items.TokenKind.{TokenKind}
 use Rattle.jr_lex.specs.declared.items.Symbol.TheVariants.{CloseBrace}
-use Rattle.jr_lex.specs.declared.items.Keyword.TheVariants.{Final, If, While, Return, Synchronized, Int, Boolean}
 use Rattle.jr_lex.specs.declared.items.Symbol.TheVariants as symbol_name
 use Rattle.jr_lex.specs.Characters.{is_blank, all_pass, first_passes}
 use Rattle.jr_lex.specs.Beside.{EndsBefore}
 use Rattle.jr_ast.specs.Tree as tree
 use Rattle.jr_ast.specs.StatementTree as statement
 use Rattle.jr_ast.specs.Marks.{exp_mark, stmt_mark}
-use Rattle.jr_grammar.specs.Tokens.{Token, word, keyword, symbol, Placed, placed_of, kinds}
+use Rattle.jr_grammar.specs.Tokens.{Token, word, symbol, Placed, placed_of, kinds}
 use Rattle.jr_grammar.specs.Layout.{itself, spans_from}
-use Rattle.jr_grammar.specs.Shape.{ShapedBehind}
-use Rattle.jr_grammar.specs.Stands.{Tokens, first_from, last_to, span_of, InOrder, Stands}
+use Rattle.jr_grammar.specs.Stands.{Tokens, last_to, span_of, InOrder, Stands}
 use Rattle.jr_grammar.specs.Spelling.{toks, type_toks}
-use Rattle.jr_grammar.specs.StatementSpelling.{final_toks, stmt_toks, stmts_toks}
+use Rattle.jr_grammar.specs.StatementSpelling.{stmt_toks, stmts_toks}
 use Rattle.jr_grammar.specs.StatementLayout.{stmt_layout, stmts_layout}
 use Rattle.jr_grammar.proofs.Layouts.{spans_from-span, stands_laid}
 use Rattle.jr_grammar.proofs.StatementLayouts.{stmt_laid}
@@ -27,22 +25,19 @@ use Rattle.jr_table.specs.Context.{Context, after, locals_in}
 use Rattle.jr_members.specs.WrittenLaws.{MembersAreWritten}
 use Rattle.jr_bind.specs.Programs.{Program, IsProgram}
 use Rattle.jr_layout.specs.Layouts.{AreLinesOf}
-use Rattle.jr_images.specs.Regions.{Region}
 use Rattle.jr_images.specs.TextLaws.{RowsAreNamed}
-use Rattle.jr_rewrite.specs.Respellings.{Change}
 use Rattle.jr_rewrite.specs.Rewritten.{Rewritten, change}
-use Rattle.jr_rewrite.specs.Spots.{Asks, Takes, spotted}
+use Rattle.jr_rewrite.specs.Spots.{spotted}
 use Rattle.jr_rewrite.specs.SuitableSpots.{AreSuitableSpots}
-use Rattle.jr_rewrite.specs.Woven.{Fronts, WovenFrom, Weaves, anything, no_indent, token_to, BehindNoIndent}
+use Rattle.jr_rewrite.specs.Woven.{Fronts, Weaves, anything, no_indent, token_to}
 use Rattle.jr_rewrite.proofs.Skipping.{Skipped}
 use Rattle.jr_rewrite.proofs.Steps.{Stepped}
 use Rattle.jr_rewrite.proofs.StatementSteps.{list_steps}
 use Rattle.jr_rewrite.proofs.SpotWeaving.{woven_so, both_weave, list_weaves, MayGo, erase_weaves}
-use Rattle.jr_rewrite.proofs.WholeLines.{AreLines, MayGoWithLines, erase_lines}
+use Rattle.jr_rewrite.proofs.WholeLines.{AreLines, erase_lines}
 use Rattle.jr_local.specs.Texts.{EndsToken}
-use Rattle.jr_local.specs.Scopes.{without}
-use Rattle.jr_local.specs.Inlining.{Declared, element, Naming}
-use Rattle.jr_local.specs.Inlined.{Copy, left_out, choices, read_spot, EndsCopy, Goes, Inlines, Found, Fronted}
+use Rattle.jr_local.specs.Inlining.{Declared, element}
+use Rattle.jr_local.specs.Inlined.{left_out, choices, read_spot, EndsCopy, Goes, Inlines, Found, Fronted}
 use Rattle.jr_moved_texts.specs.Spaces.{kind_of}
 use Rattle.jr_moved_texts.specs.Moved.{anywhere}
 use Rattle.jr_moved_texts.proofs.ExpressionEnds.{begins_no_dot, Head, exp_head}

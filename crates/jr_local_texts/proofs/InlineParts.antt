@@ -1,5 +1,5 @@
 -- Inline local: the declaration, the list behind it, and the reads among the file's tokens.
-use Rattle.std.proofs.Common.{◌≡◌, ◌⊎◌, inl, inr, ℕ, ◌+◌, ◌<◌, ◌≤◌, true, false, List, [], ◌∷◌, ◌++◌, length, drop, Option, Some, refl, sym, ap, ◌∙◌, subst, arith}
+use Rattle.std.proofs.Common.{◌≡◌, inl, inr, ℕ, ◌+◌, ◌<◌, ◌≤◌, true, false, List, [], ◌∷◌, ◌++◌, length, drop, Some, refl, sym, ap, ◌∙◌, subst, arith}
 use Rattle.std.specs.Str.{chars}
 use Rattle.std.proofs.lemmas.Bool.{both_ways}
 use Rattle.std.proofs.lemmas.List.{append_assoc, length-append, drop_at}
@@ -13,12 +13,10 @@ use Rattle.jr_lex.specs.declared.items.TokenKind.TheVariants.{Word}
 use Rattle.jr_lex.specs.Characters.{is_word_start, is_word_part, first_passes}
 use Rattle.jr_lex.specs.Lexemes.{IsLexeme}
 use Rattle.jr_lex.proofs.FirstLaws.{word_start-part}
-use Rattle.jr_ast.specs.Tree as tree
-use Rattle.jr_ast.specs.StatementTree as statement
 use Rattle.jr_ast.specs.Marks.{exp_mark, stmt_mark}
 use Rattle.jr_grammar.specs.Tokens.{Token, word, keyword, integer, text as string_token, symbol, Placed, placed_of, kinds}
-use Rattle.jr_grammar.specs.Layout.{itself, spans_from}
-use Rattle.jr_grammar.specs.Stands.{Tokens, first_from, last_to, span_of, InOrder, Stands}
+use Rattle.jr_grammar.specs.Layout.{itself}
+use Rattle.jr_grammar.specs.Stands.{Tokens, first_from, span_of, InOrder, Stands}
 use Rattle.jr_grammar.specs.Spelling.{toks}
 use Rattle.jr_grammar.specs.ExpressionLayout.{exp_layout}
 use Rattle.jr_grammar.specs.StatementLayout.{stmt_layout, stmts_layout}

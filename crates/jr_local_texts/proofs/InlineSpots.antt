@@ -1,18 +1,17 @@
 -- Inline local: a copy of the initializer in the place of a read.
-use Rattle.std.proofs.Common.{◌≡◌, ◌⊎◌, inl, inr, ℕ, ◌<◌, ◌≤◌, true, false, List, [], ◌∷◌, ◌++◌, length, Option, Some, refl, sym, ap, ◌∙◌, subst, arith}
+use Rattle.std.proofs.Common.{◌≡◌, ◌⊎◌, inl, inr, ℕ, true, false, List, [], ◌∷◌, ◌++◌, Some, refl, sym, ap, ◌∙◌, subst}
 use Rattle.std.specs.Prelude.{codes, slice_get, Contains}
 use Rattle.std.proofs.lemmas.Option.{slice_get-get_or}
 use Rattle.jr_text.specs.declared.spans.Span.{Span}
 use Rattle.jr_lex.specs.declared.items.TokenKind.{TokenKind}
 use Rattle.jr_lex.specs.declared.items.TokenKind.TheVariants.{Mark}
-use Rattle.jr_lex.specs.declared.items.Symbol.TheVariants.{Slash, OpenParen, CloseParen}
+use Rattle.jr_lex.specs.declared.items.Symbol.TheVariants.{Slash}
 use Rattle.jr_lex.specs.declared.items.ItemKind.TheVariants.{Token as TokenItem}
 use Rattle.jr_lex.specs.Beside.{EndsBefore, token_beside}
 use Rattle.jr_ast.specs.Tree as tree
 use Rattle.jr_ast.specs.Marks.{exp_mark}
-use Rattle.jr_grammar.specs.Tokens.{Token, symbol, Placed}
+use Rattle.jr_grammar.specs.Tokens.{Placed}
 use Rattle.jr_grammar.specs.Layout.{itself, spans_from}
-use Rattle.jr_grammar.specs.Shape.{primary_level, level_of, ShapedBehind}
 use Rattle.jr_grammar.specs.Stands.{Tokens, last_to, span_of, Stands}
 use Rattle.jr_grammar.specs.Spelling.{toks}
 use Rattle.jr_grammar.specs.ExpressionLayout.{exp_layout}
@@ -25,20 +24,17 @@ use Rattle.jr_images.specs.Regions.{Region}
 use Rattle.jr_images.specs.NamedImages.{AreNamedImages}
 use Rattle.jr_images.specs.TextLaws.{RowsAreNamed}
 use Rattle.jr_images.proofs.SuitableSpelling.{choosing_suits}
-use Rattle.jr_rewrite.specs.Respellings.{Change}
 use Rattle.jr_rewrite.specs.Rewritten.{Rewritten, change}
-use Rattle.jr_rewrite.specs.Spots.{Asks, level, Takes, nowhere}
-use Rattle.jr_rewrite.specs.Rewrites.{TransformsExp}
+use Rattle.jr_rewrite.specs.Spots.{Asks, nowhere}
 use Rattle.jr_rewrite.specs.Suitable.{AreSuitable}
 use Rattle.jr_rewrite.specs.Woven.{Fronts, Weaves, anything, token_to, with_changes}
 use Rattle.jr_rewrite.proofs.Steps.{Stepped}
 use Rattle.jr_rewrite.proofs.Stepping.{IsSome}
 use Rattle.jr_rewrite.proofs.ExpressionSteps.{exp_some, exp_steps}
 use Rattle.jr_local.specs.Bodies.{begins}
-use Rattle.jr_local.specs.Texts.{EndsToken}
 use Rattle.jr_local.specs.Scopes.{same_images, in_copy}
 use Rattle.jr_local.specs.Inlining.{Declared, Naming, at_init, known_at}
-use Rattle.jr_local.specs.Inlined.{Copy, in_parentheses, copied_text, put, Becomes, choices, IsCopyAt, EndsCopy, Reads, Found, Fronted}
+use Rattle.jr_local.specs.Inlined.{Copy, in_parentheses, Becomes, choices, IsCopyAt, EndsCopy, Reads, Found, Fronted}
 use Rattle.jr_moved_texts.specs.Spaces.{last_kind, ending_at, spaced}
 use Rattle.jr_moved_texts.specs.Moved.{nowhere_weaves}
 use Rattle.jr_moved_texts.proofs.Boundaries.{Behind}

@@ -1,18 +1,16 @@
 -- Where rows stay as they are: names are identifiers, and so what is chosen suits its place.
-use Rattle.std.proofs.Common.{◌≡◌, ℕ, List, Some, true, refl, sym, subst}
+use Rattle.std.proofs.Common.{◌≡◌, ℕ, List, Some, true, refl, subst}
 use Rattle.std.specs.Prelude.{slice_get}
 use Rattle.std.specs.Cmp.Lexicographic.{bytes_decides}
 use Rattle.std.proofs.lemmas.Bool.{both_ways}
 use Rattle.jr_text.specs.declared.spans.Span.{Span}
-use Rattle.jr_lex.specs.Replacing.{IsName}
 use Rattle.jr_ast.specs.MemberTree as syntax
 use Rattle.jr_grammar.specs.Layout.{itself}
 use Rattle.jr_grammar.specs.Reads.{Reads}
-use Rattle.jr_table.specs.Decls.{Decl, class_decl, field_decl, method_decl}
-use Rattle.jr_table.specs.DeclaredItems.{declarations_of}
+use Rattle.jr_table.specs.Decls.{class_decl, field_decl, method_decl}
 use Rattle.jr_table.specs.SameKeys.{same_name}
 use Rattle.jr_table.specs.Rows.{Row}
-use Rattle.jr_bind.specs.Programs.{File, Program, IsProgram, units_of}
+use Rattle.jr_bind.specs.Programs.{Program, IsProgram, units_of}
 use Rattle.jr_images.specs.NamedImages.{AreNamedImages}
 use Rattle.jr_images.specs.OneLocal.{HaveNoDots}
 use Rattle.jr_images.specs.TextLaws.{AreNamed, RowsAreNamed}

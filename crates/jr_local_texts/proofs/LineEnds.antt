@@ -1,11 +1,10 @@
 -- Lines that go: which places they have, that no token ends where a line begins, and that no dot
 -- comes behind what goes.
 use Rattle.std.proofs.Common.{◌≡◌, ◌≢◌, ◌⊎◌, inl, inr, ℕ, suc, zero, ◌+◌, ◌-◌, ◌<◌, ◌≤◌, ◌==◌, ◌||◌, Bool, true, false, List, [], ◌∷◌, ◌++◌, length, get_or, take, drop, Option, Some, None, refl, sym, ap, ◌∙◌, subst, arith}
-use Rattle.std.specs.Prelude.{slice_range, slice_index}
-use Rattle.std.specs.Str.{IsUtf8, chars}
+use Rattle.std.specs.Str.{chars}
 use Rattle.std.proofs.lemmas.Bool.{and_parts, and_from, or_parts, both_ways, eqb-true, eq-eqb, false_from_ne_true, cases_lt}
-use Rattle.std.proofs.lemmas.List.{append_assoc, append-nil, length-append, take_at, drop_at, take-append-drop, length-take-le}
-use Rattle.std.proofs.lemmas.Str.{chars-append, chars-nil}
+use Rattle.std.proofs.lemmas.List.{append_assoc, append-nil, length-append, take_at, drop_at}
+use Rattle.std.proofs.lemmas.Str.{chars-append}
 use Rattle.jr_text.specs.declared.spans.Span.{Span}
 use Rattle.jr_lex.specs.declared.items.Item.{Item}
 use Rattle.jr_lex.specs.declared.items.ItemKind.{ItemKind}
@@ -27,15 +26,15 @@ use Rattle.jr_grammar.specs.Tokens.{Placed, placed_of}
 use Rattle.jr_grammar.specs.Stands.{Tokens, first_from, last_to, span_of}
 use Rattle.jr_layout.specs.declared.lines.LineEnd.{LineEnd}
 use Rattle.jr_layout.specs.declared.lines.LineEnd.TheVariants.{Lf, Cr, CrLf}
-use Rattle.jr_layout.specs.Lines.{HasByte, line_end_bytes, StandsAt, IsLineStart, IsSpaceOrTab, IsIndent, IsLastOnLine}
+use Rattle.jr_layout.specs.Lines.{HasByte, line_end_bytes, StandsAt, IsLineStart, IsSpaceOrTab}
 use Rattle.jr_layout.specs.Layouts.{AreLinesOf}
 use Rattle.jr_rewrite.specs.Woven.{Tiled, ends_in, is_indent, BehindNoIndent}
 use Rattle.jr_rewrite.proofs.LastBytes.{ends_append, ends_apart, ends_chars, line_end_ascii}
 use Rattle.jr_rewrite.proofs.BlankBytes.{parted, pass_parts, blank_ascii, blank_text, blank_chars, blank_bytes, first_chars, pass_slice, ends_there}
-use Rattle.jr_rewrite.proofs.Skipping.{placed_blank, placed_comment}
+use Rattle.jr_rewrite.proofs.Skipping.{placed_blank}
 use Rattle.jr_rewrite.proofs.Tiles.{tiled_text}
 use Rattle.jr_rewrite.proofs.WholeLines.{StartsLine, AreLines}
-use Rattle.jr_moved_texts.specs.Spaces.{kind_of, token_in, ending_at}
+use Rattle.jr_moved_texts.specs.Spaces.{kind_of, ending_at}
 use Rattle.jr_moved_texts.specs.Moved.{anywhere}
 use Rattle.jr_moved_texts.proofs.Tiling.{some_lexeme}
 use Rattle.jr_moved_texts.proofs.Boundaries.{some_width, token_place, ends_here, ends_later, token_kind}

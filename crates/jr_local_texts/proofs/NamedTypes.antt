@@ -1,5 +1,5 @@
 -- A type that has a spelling is written in identifiers.
-use Rattle.std.proofs.Common.{◌≡◌, ◌⊎◌, inl, inr, ℕ, zero, suc, Bool, true, false, List, [], ◌∷◌, Option, Some, None, refl, sym, ap, ◌∙◌, subst}
+use Rattle.std.proofs.Common.{◌≡◌, inl, inr, ℕ, zero, suc, Bool, true, false, List, [], ◌∷◌, Option, Some, None, sym, ap, ◌∙◌, subst}
 use Rattle.std.specs.Prelude.{slice_get, if◌then◌else◌}
 use Rattle.jr_text.specs.declared.spans.Span.{Span}
 use Rattle.jr_lex.specs.Replacing.{IsName}
@@ -24,7 +24,7 @@ use Rattle.jr_spell.specs.Binds.{Binds}
 use Rattle.jr_images.specs.Regions.{Region}
 use Rattle.jr_images.specs.Spelling.{respelled, renamed, outer_type, spelled, reference, there, lost as lost_choice}
 use Rattle.jr_images.specs.TextLaws.{IsOuterName, IsNamedClass, AreNamed}
-use Rattle.jr_rewrite.specs.Respellings.{Choice, stays, same, alone, by_class, Loss}
+use Rattle.jr_rewrite.specs.Respellings.{Choice, stays, same, Loss}
 use Rattle.jr_rewrite.specs.Rewritten.{Rewritten, losses_of, simple_type_out}
 use Rattle.jr_local.specs.Bodies.{begins}
 use Rattle.jr_local.specs.Extracted.{word_of, WritesType}

@@ -11,7 +11,6 @@ use Rattle.jr_lex.specs.declared.items.Keyword.TheVariants.{Int, Boolean}
 use Rattle.jr_lex.specs.declared.items.Symbol.TheVariants.{Dot}
 use Rattle.jr_lex.specs.Characters.{first_passes}
 use Rattle.jr_lex.specs.Words.{keyword_text}
-use Rattle.jr_lex.specs.Replacing.{IsName}
 use Rattle.jr_lex.specs.Beside.{EndsBefore}
 use Rattle.jr_lex.specs.Near.{IsCut}
 use Rattle.jr_lex.proofs.BesideLaws.{lets_end}

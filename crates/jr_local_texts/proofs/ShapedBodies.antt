@@ -1,13 +1,11 @@
 -- The lists of bodies are shaped, as their files are, and so are the elements in them.
-use Rattle.std.proofs.Common.{◌≡◌, ◌⊎◌, inl, inr, ℕ, Bool, true, false, List, [], ◌∷◌, Option, Some, None, refl, sym, ap, ◌∙◌, subst}
-use Rattle.std.specs.Prelude.{slice_get}
+use Rattle.std.proofs.Common.{◌≡◌, inl, inr, ℕ, Bool, true, false, List, [], ◌∷◌, Option, Some, None, refl, subst}
 use Rattle.std.proofs.lemmas.Option.{same_Some}
 use Rattle.jr_text.specs.declared.spans.Span.{Span}
 use Rattle.jr_ast.specs.Tree as tree
 use Rattle.jr_ast.specs.StatementTree as statement
 use Rattle.jr_ast.specs.MemberTree as syntax
 use Rattle.jr_grammar.specs.Layout.{itself}
-use Rattle.jr_grammar.specs.Shape.{ShapedBehind}
 use Rattle.jr_grammar.specs.StatementShape.{StmtShaped, StmtsShaped}
 use Rattle.jr_grammar.specs.MemberShape.{ClassShaped, MemberShaped, MembersShaped, ClassesShaped}
 use Rattle.jr_table.specs.Keys.{ClassKey}
@@ -17,7 +15,7 @@ use Rattle.jr_table.specs.Errors.{Part, class_part, member_part, InClass, InMemb
 use Rattle.jr_members.specs.WrittenMembers.{written_members}
 use Rattle.jr_members.specs.WrittenLaws.{MembersAreWritten}
 use Rattle.jr_bind.specs.Bounds.{Bound}
-use Rattle.jr_bind.specs.Programs.{File, Program, IsProgram, units_of}
+use Rattle.jr_bind.specs.Programs.{Program, IsProgram, units_of}
 use Rattle.jr_pieces.specs.Ways.{StmtWay, in_init, in_eval, in_condition, in_then, in_else, in_turning, in_body, in_returned, in_block, in_lock, in_locked, ListWay}
 use Rattle.jr_pieces.specs.Ways as ways
 use Rattle.jr_pieces.specs.Standings.{Standing, inside, behind, in_other}

@@ -1,5 +1,5 @@
 -- Where the list of a body stands among its file's tokens.
-use Rattle.std.proofs.Common.{◌≡◌, ◌⊎◌, inl, inr, ℕ, zero, suc, List, [], ◌∷◌, ◌++◌, map, Option, Some, None, refl, sym, ap, ◌∙◌, subst}
+use Rattle.std.proofs.Common.{◌≡◌, ◌⊎◌, inl, inr, ℕ, List, [], ◌∷◌, ◌++◌, Option, Some, None, refl, sym, ap, ◌∙◌, subst}
 use Rattle.std.specs.Prelude.{slice_get, Contains, option_map}
 use Rattle.std.proofs.lemmas.List.{append_assoc, append-nil}
 use Rattle.std.proofs.lemmas.Option.{none-some, same_Some, slice_get_within, get_or_from_slice_get, slice_get-map}
@@ -18,13 +18,13 @@ use Rattle.jr_grammar.specs.Layout.{itself}
 use Rattle.jr_grammar.specs.Stands.{Tokens, IsAlone, InOrder, span_of, Stands, StandInOrder}
 use Rattle.jr_grammar.specs.ExpressionLayout.{exp_layout}
 use Rattle.jr_grammar.specs.StatementLayout.{stmt_layout, stmts_layout}
-use Rattle.jr_grammar.specs.MemberLayout.{member_layout, parent_call_layout, unit_layouts}
+use Rattle.jr_grammar.specs.MemberLayout.{parent_call_layout, unit_layouts}
 use Rattle.jr_grammar.proofs.Layouts.{all_spans_from-span}
 use Rattle.jr_table.specs.Decls.{MemberKey}
 use Rattle.jr_table.specs.DeclaredItems.{declarations_of}
 use Rattle.jr_table.specs.Errors.{Part, class_part, member_part}
-use Rattle.jr_members.specs.WrittenMembers.{WrittenMember, written_members}
-use Rattle.jr_members.specs.WrittenLaws.{MembersAreWritten, IsWritten}
+use Rattle.jr_members.specs.WrittenMembers.{written_members}
+use Rattle.jr_members.specs.WrittenLaws.{MembersAreWritten}
 use Rattle.jr_bind.specs.Bounds.{Bound}
 use Rattle.jr_bind.specs.Programs.{File, Program, IsProgram, units_of}
 use Rattle.jr_program_laws.proofs.TokenOrder.{whole_piece}

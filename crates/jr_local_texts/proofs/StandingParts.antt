@@ -1,16 +1,16 @@
 -- Where the parts of a member stand among its tokens: expressions to which ways lead, and lists, in
 -- front of and behind which a brace or the end of a statement stands.
-use Rattle.std.proofs.Common.{◌≡◌, ◌⊎◌, inl, inr, List, [], ◌∷◌, ◌++◌, Option, Some, None, refl, sym, ap, ◌∙◌, subst}
+use Rattle.std.proofs.Common.{◌≡◌, ◌⊎◌, inl, inr, [], ◌∷◌, ◌++◌, Option, Some, None, refl, sym, ap, ◌∙◌, subst}
 use Rattle.std.proofs.lemmas.List.{append_assoc, append-nil}
 use Rattle.jr_text.specs.declared.spans.Span.{Span}
 use Rattle.jr_lex.specs.declared.items.Symbol.TheVariants.{OpenBrace, CloseBrace, Semicolon}
 use Rattle.jr_ast.specs.declared.operators.BumpOp.TheVariants.{PreInc, PreDec, PostInc, PostDec}
 use Rattle.jr_ast.specs.Tree as tree
 use Rattle.jr_ast.specs.StatementTree as statement
-use Rattle.jr_grammar.specs.Tokens.{Token, symbol, Placed}
-use Rattle.jr_grammar.specs.Stands.{Tokens, IsAlone, InOrder, IsNode, Stands, StandInOrder}
-use Rattle.jr_grammar.specs.ExpressionLayout.{exp_layout, target_layout, args_layout, more_args_layout}
-use Rattle.jr_grammar.specs.StatementLayout.{stmt_layout, else_layout, stmts_layout}
+use Rattle.jr_grammar.specs.Tokens.{Token, symbol}
+use Rattle.jr_grammar.specs.Stands.{Tokens, IsAlone, InOrder, Stands}
+use Rattle.jr_grammar.specs.ExpressionLayout.{exp_layout, args_layout, more_args_layout}
+use Rattle.jr_grammar.specs.StatementLayout.{stmt_layout, stmts_layout}
 use Rattle.jr_pieces.specs.Ways.{ExpWay, here, in_front, in_target, in_argument, in_super_argument, in_created, in_paren, in_cast, in_unary, in_bump, in_left, in_right, in_assigned, in_value, in_changed, in_change, ExpsWay, first_argument, later_argument, StmtWay, in_init, in_eval, in_condition, in_then, in_else, in_turning, in_body, in_returned, in_block, in_lock, in_locked, ListWay}
 use Rattle.jr_pieces.specs.Ways as ways
 use Rattle.jr_pieces.specs.Standings.{Standing, inside, behind, in_other}

@@ -1,23 +1,21 @@
 -- An expression that is put elsewhere is shaped there: where it stood behind a minus, it begins with
 -- no 2147483648. (jr_images and jr_rewrite have the first two parts for themselves alone.)
-use Rattle.std.proofs.Common.{◌≡◌, ◌≢◌, ◌⊎◌, inl, inr, ℕ, ◌≤◌, Bool, true, false, List, [], ◌∷◌, Option, Some, None, refl, sym, ap, ◌∙◌, subst, arith}
+use Rattle.std.proofs.Common.{◌≡◌, ◌≢◌, inl, inr, ℕ, ◌≤◌, Bool, true, false, List, ap, arith}
 use Rattle.jr_text.specs.declared.spans.Span.{Span}
-use Rattle.jr_ast.specs.declared.operators.UnOp.{UnOp}
-use Rattle.jr_ast.specs.declared.operators.UnOp.TheVariants.{Plus, Minus, Not}
 use Rattle.jr_ast.specs.declared.operators.BinOp.{BinOp}
 use Rattle.jr_ast.specs.declared.operators.BinOp.TheVariants.{Or, And, Eq, Ne, Lt, Gt, Le, Ge, Add, Sub, Mul, Div, Rem}
 use Rattle.jr_ast.specs.declared.operators.BumpOp.{BumpOp}
 use Rattle.jr_ast.specs.declared.operators.BumpOp.TheVariants.{PreInc, PreDec, PostInc, PostDec}
 use Rattle.jr_ast.specs.Tree as tree
 use Rattle.jr_ast.specs.StatementTree as statement
-use Rattle.jr_grammar.specs.Shape.{sign_level, rank_of, bump_level, level_of, IsPrimary, IsTarget, is_minus, behind_of, ShapedBehind, ShapedTarget, AllShaped}
-use Rattle.jr_grammar.specs.StatementShape.{StmtShaped, ElseShaped, StmtsShaped}
+use Rattle.jr_grammar.specs.Shape.{sign_level, rank_of, bump_level, level_of, IsPrimary, IsTarget, is_minus, ShapedBehind, ShapedTarget, AllShaped}
+use Rattle.jr_grammar.specs.StatementShape.{StmtShaped, StmtsShaped}
 use Rattle.jr_grammar.specs.Layout.{itself}
-use Rattle.jr_table.specs.Keys.{ClassKey, Ty, int, class}
-use Rattle.jr_table.specs.Decls.{Decl, field_decl, method_decl}
+use Rattle.jr_table.specs.Keys.{ClassKey, int, class}
+use Rattle.jr_table.specs.Decls.{Decl}
 use Rattle.jr_table.specs.Rows.{Row}
 use Rattle.jr_table.specs.Found.{Found, one, nothing}
-use Rattle.jr_table.specs.Lookup.{FindsVariable, FindsFieldIn, FindsMethodOf}
+use Rattle.jr_table.specs.Lookup.{FindsFieldIn, FindsMethodOf}
 use Rattle.jr_table.specs.Context.{Context, scope_of}
 use Rattle.jr_table.specs.Binding.{HasType, IsClassName, TargetFinds, HaveTypes, FindsIn, FindsFor, On, Role, value, left, statement as as_statement}
 use Rattle.jr_rewrite.specs.Respellings.{Choice}

@@ -96,19 +96,19 @@ module _ {A : Type 0} where
   -- ---- the number of a part of a row, or of a list, and the path behind it
 
   module _ {f : tree.Exp A} where
-    row_number : {es : tree.Exps A} → ExpsWay f es → ℕ
+    abbrev row_number : {es : tree.Exps A} → ExpsWay f es → ℕ
     row_number (first_argument e es d) = 0
     row_number (later_argument e es d) = suc (row_number d)
 
-    row_rest : {es : tree.Exps A} → ExpsWay f es → List ℕ
+    abbrev row_rest : {es : tree.Exps A} → ExpsWay f es → List ℕ
     row_rest (first_argument e es d) = exp_path d
     row_rest (later_argument e es d) = row_rest d
 
-    list_number : {b : statement.Stmts A} → ListWay f b → ℕ
+    abbrev list_number : {b : statement.Stmts A} → ListWay f b → ℕ
     list_number (first s ss d) = 0
     list_number (later s ss d) = suc (list_number d)
 
-    list_rest : {b : statement.Stmts A} → ListWay f b → List ℕ
+    abbrev list_rest : {b : statement.Stmts A} → ListWay f b → List ℕ
     list_rest (first s ss d) = stmt_path d
     list_rest (later s ss d) = list_rest d
 
