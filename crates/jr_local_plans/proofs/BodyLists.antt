@@ -38,7 +38,7 @@ deeper ps h go =
     let i = go h.back h.rest in
     record { among = among_rest ps h (λ qs k. (go qs k).among); filled = filled_back h.front i.among.front i.filled }
 
-all_there : {Holds : Tokens → Type 0} (ps : Tokens) → Holds ps → Among Holds ps
+abbrev all_there : {Holds : Tokens → Type 0} (ps : Tokens) → Holds ps → Among Holds ps
 all_there ps h = record { front = []; part = ps; back = []; whole = sym (append-nil ps); stands = h }
 
 open_filled : (ps more : Tokens) → IsAlone (symbol OpenBrace) ps → Filled (ps ++ more)

@@ -68,35 +68,33 @@ module _ {f : tree.Exp Span} where
 
 -- ---- so one is selected
 
+abbrev chosen_in : (b : Body) → In (λ (h : tree.Exp Span). ListWay h b.list) → Chosen
+chosen_in b i = record { body = b; value = i.value; way = i.way }
+
+abbrev Alike : {p : Program Span} {file from to : ℕ} → Selected p file from to → Body → Type 0
+Alike {from = from} {to = to} x b = (g : tree.Exp Span) (e : ListWay g b.list) → exp_mark g ≡ record { from = from; to = to }
+    → (let c : Chosen = chosen x in c ≡ record { body = b; value = g; way = e })
+
+abbrev barred : Chosen → Option ℕ
+barred c = (let n = nearest begins c.body.at c.way in stmt_barred begins n.at.base None n.way)
+
+abbrev names : Chosen → List ScopeLocal
+names c = (let n = nearest begins c.body.at c.way in (scope_of n.at.context).locals ++ declared_in_list c.body.key n.at.next (statement.more n.stmt n.rest))
+
 module _ (placed : ItemsPlaced) (written : MembersAreWritten Span) (law : StandingListsAreNested Span) (one : OneWayHasASpan Span) (p : Program Span) (program : IsProgram itself (λ m b. Unit {0}) p) (file from to : ℕ) where
   chosen_once : (x y : Selected p file from to) → x.body ≡ y.body → chosen x ≡ chosen y
-  chosen_once x y same = subst Alike same here_alike y.value y.way y.span
+  chosen_once x y same = subst (Alike x) same here_alike y.value y.way y.span
     where
-      abbrev Alike : Body → Type 0
-      Alike b = (g : tree.Exp Span) (e : ListWay g b.list) → exp_mark g ≡ record { from = from; to = to }
-          → (let c : Chosen = chosen x in c ≡ record { body = b; value = g; way = e })
-
-      here_alike : Alike x.body
+      here_alike : Alike x x.body
       here_alike g e span =
           let n = body_nested placed written law p program file x.body x.has in
           let ends : list_end itself 0 x.way ≡ list_end itself 0 e = list_ends 0 x.way ∙ x.span ∙ sym span ∙ sym (list_ends 0 e) in
-          ap (λ (i : In (λ h. ListWay h x.body.list)). (let c : Chosen = record { body = x.body; value = i.value; way = i.way } in c))
-          (one itself (record { from = 0; to = n.to }) 1 x.body.list n.nested x.value g x.way e ends)
+          ap (chosen_in x.body) (one itself (record { from = 0; to = n.to }) 1 x.body.list n.nested x.value g x.way e ends)
 
   pub selected_once : (x y : Selected p file from to) → x.body ≡ y.body → AreOne x y
   selected_once x y same =
       let is = chosen_once x y same in
-      record {
-        chosen_is = is;
-        bar_is = ap barred is;
-        taken_is = ap names is;
-      }
-    where
-      abbrev barred : Chosen → Option ℕ
-      barred c = (let n = nearest begins c.body.at c.way in stmt_barred begins n.at.base None n.way)
-
-      abbrev names : Chosen → List ScopeLocal
-      names c = (let n = nearest begins c.body.at c.way in (scope_of n.at.context).locals ++ declared_in_list c.body.key n.at.next (statement.more n.stmt n.rest))
+      record { chosen_is = is; bar_is = ap barred is; taken_is = ap names is }
 
 pub one_is_selected : ItemsPlaced → MembersAreWritten Span → StandingListsAreNested Span → OneWayHasASpan Span → OneIsSelected
 one_is_selected placed written law one p program file from to x y same = selected_once placed written law one p program file from to x y same

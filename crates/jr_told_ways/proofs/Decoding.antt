@@ -180,10 +180,10 @@ paths_tell {A} b i f g d e is =
     let whole : (i + list_number d) ∷ list_rest d ≡ (i + list_number e) ∷ list_rest e = sym (list_path_is i d) ∙ is ∙ list_path_is i e in
     let number : list_number d ≡ list_number e = cancelled i (list_number d) (list_number e) (same_head _ _ _ _ whole) in
     let rest : list_rest d ≡ list_rest e = same_tail _ _ _ _ whole in
-    same_found (record { value = f; way = d }) (record { value = g; way = e }) (sym (list_again d) ∙ (λ j. list_at (number j) (rest j) b) ∙ list_again e)
+    same_found {T = In (λ (h : tree.Exp A). ListWay h b)} (record { value = f; way = d }) (record { value = g; way = e }) (sym (list_again d) ∙ (λ j. list_at (number j) (rest j) b) ∙ list_again e)
   where
     cancelled : (n x y : ℕ) → n + x ≡ n + y → x ≡ y
-    cancelled n x y e = arith
+    cancelled n x y e = omega (arith, e)
 
 pub one_way : {A : Type 0} → SpansTellWays A → OneWayHasASpan A
 one_way {A} spans tells whole lo b nested f g d e same =
