@@ -90,7 +90,7 @@ inner_nested law b ps r i =
     let whole : Tokens = i.among.part in
     let there = subst (λ l. Stands l whole) (sym (spans_from-span 0 (stmts_layout b))) i.among.stands in
     let rise : nesting.Rising 1 whole = parts_rise i.among.front whole i.among.back (subst Rising i.among.whole r) i.filled in
-    record { to = end_from 1 whole; nested = law itself (record { from = 0; to = end_from 1 whole }) 1 b whole there (let one : 0 < 1 = arith in one) rise (let ends : end_from 1 whole ≤ end_from 1 whole = arith in ends) }
+    record { to = end_from 1 whole; nested = law itself (record { from = 0; to = end_from 1 whole }) 1 b whole there (let one : 0 < 1 = omega arith in one) rise (let ends : end_from 1 whole ≤ end_from 1 whole = omega arith in ends) }
 
 pub body_nested : ItemsPlaced → MembersAreWritten Span → StandingListsAreNested Span → (p : Program Span) → IsProgram itself (λ m b. Unit {0}) p → (file : ℕ) (b : Body) → HasBody p file b → NestedBody b.list
 body_nested placed written law p program file b h =

@@ -113,12 +113,12 @@ module _ {A : Type 0} where
     list_rest (later s ss d) = list_rest d
 
     row_path_is : (i : ℕ) {es : tree.Exps A} (d : ExpsWay f es) → exps_path i d ≡ (i + row_number d) ∷ row_rest d
-    row_path_is i (first_argument e es d) = ap (λ n. n ∷ exp_path d) (let none : i ≡ i + 0 = arith in none)
-    row_path_is i (later_argument e es d) = row_path_is (suc i) d ∙ ap (λ n. n ∷ row_rest d) (let moved : suc i + row_number d ≡ i + suc (row_number d) = arith in moved)
+    row_path_is i (first_argument e es d) = ap (λ n. n ∷ exp_path d) (let none : i ≡ i + 0 = omega arith in none)
+    row_path_is i (later_argument e es d) = row_path_is (suc i) d ∙ ap (λ n. n ∷ row_rest d) (let moved : suc i + row_number d ≡ i + suc (row_number d) = omega arith in moved)
 
     list_path_is : (i : ℕ) {b : statement.Stmts A} (d : ListWay f b) → list_path i d ≡ (i + list_number d) ∷ list_rest d
-    list_path_is i (first s ss d) = ap (λ n. n ∷ stmt_path d) (let none : i ≡ i + 0 = arith in none)
-    list_path_is i (later s ss d) = list_path_is (suc i) d ∙ ap (λ n. n ∷ list_rest d) (let moved : suc i + list_number d ≡ i + suc (list_number d) = arith in moved)
+    list_path_is i (first s ss d) = ap (λ n. n ∷ stmt_path d) (let none : i ≡ i + 0 = omega arith in none)
+    list_path_is i (later s ss d) = list_path_is (suc i) d ∙ ap (λ n. n ∷ list_rest d) (let moved : suc i + list_number d ≡ i + suc (list_number d) = omega arith in moved)
 
     -- ---- it is found again
 
