@@ -120,6 +120,18 @@ module _ {A : Type 0} where
     list_path_is i (first s ss d) = ap (λ n. n ∷ stmt_path d) (let none : i ≡ i + 0 = omega arith in none)
     list_path_is i (later s ss d) = list_path_is (suc i) d ∙ ap (λ n. n ∷ list_rest d) (let moved : suc i + list_number d ≡ i + suc (list_number d) = omega arith in moved)
 
+    row_from_one : {es : tree.Exps A} (d : ExpsWay f es) → exps_path 1 d ≡ suc (row_number d) ∷ row_rest d
+    row_from_one d = row_path_is 1 d ∙ ap (λ n. n ∷ row_rest d) (let one : 1 + row_number d ≡ suc (row_number d) = omega arith in one)
+
+    row_from_two : {es : tree.Exps A} (d : ExpsWay f es) → exps_path 2 d ≡ suc (suc (row_number d)) ∷ row_rest d
+    row_from_two d = row_path_is 2 d ∙ ap (λ n. n ∷ row_rest d) (let two : 2 + row_number d ≡ suc (suc (row_number d)) = omega arith in two)
+
+    list_from_none : {b : statement.Stmts A} (d : ListWay f b) → list_path 0 d ≡ list_number d ∷ list_rest d
+    list_from_none d = list_path_is 0 d ∙ ap (λ n. n ∷ list_rest d) (let none : 0 + list_number d ≡ list_number d = omega arith in none)
+
+    list_from_one : {b : statement.Stmts A} (d : ListWay f b) → list_path 1 d ≡ suc (list_number d) ∷ list_rest d
+    list_from_one d = list_path_is 1 d ∙ ap (λ n. n ∷ list_rest d) (let one : 1 + list_number d ≡ suc (list_number d) = omega arith in one)
+
     -- ---- it is found again
 
     mutual
@@ -127,10 +139,10 @@ module _ {A : Type 0} where
       exp_again here = refl
       exp_again (in_front m e w d) = ap (on (OfExp e) (OfExp (tree.field m e w)) (λ g x. in_front m e w x)) (exp_again d)
       exp_again (in_target m e w es d) = ap (on (OfExp e) (OfExp (tree.call m (tree.on e) w es)) (λ g x. in_target m e w es x)) (exp_again d)
-      exp_again (in_argument m tree.no_target w es d) = ap (λ p. exp_at p (tree.call m tree.no_target w es)) (row_path_is 1 d) ∙ ap (on (OfRow es) (OfExp (tree.call m tree.no_target w es)) (λ g x. in_argument m tree.no_target w es x)) (row_again d)
-      exp_again (in_argument m (tree.on e) w es d) = ap (λ p. exp_at p (tree.call m (tree.on e) w es)) (row_path_is 2 d) ∙ ap (on (OfRow es) (OfExp (tree.call m (tree.on e) w es)) (λ g x. in_argument m (tree.on e) w es x)) (row_again d)
-      exp_again (in_super_argument m w es d) = ap (λ p. exp_at p (tree.super_call m w es)) (row_path_is 1 d) ∙ ap (on (OfRow es) (OfExp (tree.super_call m w es)) (λ g x. in_super_argument m w es x)) (row_again d)
-      exp_again (in_created m t es d) = ap (λ p. exp_at p (tree.create m t es)) (row_path_is 1 d) ∙ ap (on (OfRow es) (OfExp (tree.create m t es)) (λ g x. in_created m t es x)) (row_again d)
+      exp_again (in_argument m tree.no_target w es d) = ap (λ p. exp_at p (tree.call m tree.no_target w es)) (row_from_one d) ∙ ap (on (OfRow es) (OfExp (tree.call m tree.no_target w es)) (λ g x. in_argument m tree.no_target w es x)) (row_again d)
+      exp_again (in_argument m (tree.on e) w es d) = ap (λ p. exp_at p (tree.call m (tree.on e) w es)) (row_from_two d) ∙ ap (on (OfRow es) (OfExp (tree.call m (tree.on e) w es)) (λ g x. in_argument m (tree.on e) w es x)) (row_again d)
+      exp_again (in_super_argument m w es d) = ap (λ p. exp_at p (tree.super_call m w es)) (row_from_one d) ∙ ap (on (OfRow es) (OfExp (tree.super_call m w es)) (λ g x. in_super_argument m w es x)) (row_again d)
+      exp_again (in_created m t es d) = ap (λ p. exp_at p (tree.create m t es)) (row_from_one d) ∙ ap (on (OfRow es) (OfExp (tree.create m t es)) (λ g x. in_created m t es x)) (row_again d)
       exp_again (in_paren m e d) = ap (on (OfExp e) (OfExp (tree.paren m e)) (λ g x. in_paren m e x)) (exp_again d)
       exp_again (in_cast m t e d) = ap (on (OfExp e) (OfExp (tree.cast m t e)) (λ g x. in_cast m t e x)) (exp_again d)
       exp_again (in_unary m o e d) = ap (on (OfExp e) (OfExp (tree.unary m o e)) (λ g x. in_unary m o e x)) (exp_again d)
@@ -156,9 +168,9 @@ module _ {A : Type 0} where
       stmt_again (in_turning m c s d) = ap (on (OfExp c) (OfStmt (statement.loop m c s)) (λ g x. in_turning m c s x)) (exp_again d)
       stmt_again (in_body m c s d) = ap (on (OfStmt s) (OfStmt (statement.loop m c s)) (λ g x. in_body m c s x)) (stmt_again d)
       stmt_again (in_returned m e d) = ap (on (OfExp e) (OfStmt (statement.return m (Some e))) (λ g x. in_returned m e x)) (exp_again d)
-      stmt_again (in_block m b d) = ap (λ p. stmt_at p (statement.block m b)) (list_path_is 0 d) ∙ ap (on (OfList b) (OfStmt (statement.block m b)) (λ g x. in_block m b x)) (list_again d)
+      stmt_again (in_block m b d) = ap (λ p. stmt_at p (statement.block m b)) (list_from_none d) ∙ ap (on (OfList b) (OfStmt (statement.block m b)) (λ g x. in_block m b x)) (list_again d)
       stmt_again (in_lock m e b d) = ap (on (OfExp e) (OfStmt (statement.sync m e b)) (λ g x. in_lock m e b x)) (exp_again d)
-      stmt_again (in_locked m e b d) = ap (λ p. stmt_at p (statement.sync m e b)) (list_path_is 1 d) ∙ ap (on (OfList b) (OfStmt (statement.sync m e b)) (λ g x. in_locked m e b x)) (list_again d)
+      stmt_again (in_locked m e b d) = ap (λ p. stmt_at p (statement.sync m e b)) (list_from_one d) ∙ ap (on (OfList b) (OfStmt (statement.sync m e b)) (λ g x. in_locked m e b x)) (list_again d)
 
       list_again : {b : statement.Stmts A} (d : ListWay f b) → list_at (list_number d) (list_rest d) b ≡ Some (record { value = f; way = d })
       list_again (first s ss d) = ap (on (OfStmt s) (OfList (statement.more s ss)) (λ g x. first s ss x)) (stmt_again d)
