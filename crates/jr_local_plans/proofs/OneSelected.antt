@@ -1,13 +1,16 @@
--- In one body a span selects one expression, in one way.
+-- In one written member a span selects one expression, in one way.
 use Rattle.std.proofs.Common.{◌≡◌, ℕ, List, ◌++◌, Option, None, refl, sym, ap, ◌∙◌, subst}
+use Rattle.std.specs.Prelude.{slice_get}
+use Rattle.std.proofs.lemmas.Option.{same_Some}
 use Rattle.jr_text.specs.declared.spans.Span.{Span}
 use Rattle.jr_lex.specs.Places.{ItemsPlaced}
 use Rattle.jr_ast.specs.Tree as tree
 use Rattle.jr_ast.specs.StatementTree as statement
 use Rattle.jr_ast.specs.Marks.{exp_mark}
 use Rattle.jr_grammar.specs.Layout.{itself}
+use Rattle.jr_members.specs.WrittenMembers.{written_members}
 use Rattle.jr_members.specs.WrittenLaws.{MembersAreWritten}
-use Rattle.jr_bind.specs.Programs.{Program, IsProgram}
+use Rattle.jr_bind.specs.Programs.{Program, IsProgram, units_of}
 use Rattle.jr_pieces.specs.Ways.{ExpWay, here, in_front, in_target, in_argument, in_super_argument, in_created, in_paren, in_cast, in_unary, in_bump, in_left, in_right, in_assigned, in_value, in_changed, in_change, ExpsWay, first_argument, later_argument, StmtWay, in_init, in_eval, in_condition, in_then, in_else, in_turning, in_body, in_returned, in_block, in_lock, in_locked, ListWay, first, later}
 use Rattle.jr_pieces.specs.Finding.{exp_end, exps_end, stmt_end, list_end}
 use Rattle.jr_pieces.specs.Nesting.{StandingListsAreNested}
@@ -17,9 +20,10 @@ use Rattle.jr_pieces.specs.Declared.{declared_in_list}
 use Rattle.jr_table.specs.Scope.{ScopeLocal}
 use Rattle.jr_table.specs.Context.{scope_of}
 use Rattle.jr_told_ways.specs.Told.{In, OneWayHasASpan}
-use Rattle.jr_local.specs.Bodies.{begins, Body}
+use Rattle.jr_local.specs.Bodies.{begins, Body, body_of, HasBody}
 use Rattle.jr_local.specs.Selecting.{Selected}
 use Rattle.jr_local_plans.specs.OneSelected.{Chosen, chosen, AreOne, OneIsSelected}
+use Rattle.jr_local_texts.proofs.StandingBodies.{same_body}
 use Rattle.jr_local_plans.proofs.BodyLists.{body_nested}
 
 -- ---- a way ends at the span of what it leads to
@@ -66,6 +70,14 @@ module _ {f : tree.Exp Span} where
     list_ends base (first s ss d) = stmt_ends base d
     list_ends base (later s ss d) = list_ends base d
 
+-- ---- a written member has one body
+
+same_bodies : (p : Program Span) (file : ℕ) (a b : Body) (h : HasBody p file a) (k : HasBody p file b) → h.number ≡ k.number → a ≡ b
+same_bodies p file a b h k e =
+    let member : h.member ≡ k.member = same_Some h.member k.member (sym h.written ∙ ap (slice_get (written_members begins p.rows (units_of p))) e ∙ k.written) in
+    let bound : a.bound ≡ b.bound = same_Some a.bound b.bound (sym h.bound ∙ ap (slice_get p.bounds) e ∙ k.bound) in
+    same_body a b (sym h.is ∙ (λ i. body_of (member i).key (member i).base (member i).part (bound i)) ∙ k.is)
+
 -- ---- so one is selected
 
 abbrev chosen_in : (b : Body) → In (λ (h : tree.Exp Span). ListWay h b.list) → Chosen
@@ -97,4 +109,5 @@ module _ (placed : ItemsPlaced) (written : MembersAreWritten Span) (law : Standi
       record { chosen_is = is; bar_is = ap barred is; taken_is = ap names is }
 
 pub one_is_selected : ItemsPlaced → MembersAreWritten Span → StandingListsAreNested Span → OneWayHasASpan Span → OneIsSelected
-one_is_selected placed written law one p program file from to x y same = selected_once placed written law one p program file from to x y same
+one_is_selected placed written law one p program file from to x y number =
+    selected_once placed written law one p program file from to x y (same_bodies p file x.body y.body x.has y.has number)

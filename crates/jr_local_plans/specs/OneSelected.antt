@@ -24,7 +24,7 @@ module _ {p : Program Span} {file from to : ℕ} where
     pub bar_is : bar x ≡ bar y
     pub taken_is : taken x ≡ taken y
 
--- In one body a span selects one expression.
+-- In one written member a span selects one expression.
 abbrev pub OneIsSelected : Type 0
 OneIsSelected = (p : Program Span) → IsProgram itself (λ m b. Unit {0}) p → (file from to : ℕ)
-    (x y : Selected p file from to) → x.body ≡ y.body → AreOne x y
+    (x y : Selected p file from to) → x.has.number ≡ y.has.number → AreOne x y

@@ -7,7 +7,7 @@ use jr_pieces::standing_lists_are_nested;
 use jr_text::Span;
 use jr_told_ways::one_way_has_a_span;
 
-/// In one body a span selects one expression, in one way.
+/// In one written member a span selects one expression, in one way.
 pub fn one_is_selected()
     ensures { OneIsSelected }
 {
