@@ -12,7 +12,7 @@ use Rattle.jr_table.specs.Keys.{int}
 use Rattle.jr_table.specs.Decls.{MemberKey, head, field, LocalKey}
 use Rattle.jr_table.specs.Scope.{ScopeLocal}
 use Rattle.jr_pieces.specs.Declared.{first_named}
-use Rattle.jr_local.specs.Spaces.{spaced}
+use Rattle.jr_moved_texts.specs.Spaces.{spaced}
 use Rattle.jr_local.specs.Scopes.{made_room, closed_up, room, earlier, kept_locals, with_made_local}
 
 abbrev span : ℕ → ℕ → Span

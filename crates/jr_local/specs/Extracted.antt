@@ -56,7 +56,7 @@ use Rattle.jr_plan.specs.Transforms.{Lost, made as is_made, Refactoring}
 use Rattle.jr_local.specs.Bodies.{begins}
 use Rattle.jr_local.specs.Scopes.{around_made, with_made, in_made}
 use Rattle.jr_local.specs.Texts.{HasText, EndsToken}
-use Rattle.jr_local.specs.Spaces.{spaced}
+use Rattle.jr_moved_texts.specs.Spaces.{spaced}
 use Rattle.jr_local.specs.Crossing.{Crossed}
 use Rattle.jr_local.specs.Selecting.{Selected, at_value, element, RefusesExtract, IsFree}
 

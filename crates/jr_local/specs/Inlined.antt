@@ -52,7 +52,7 @@ use Rattle.jr_pieces.specs.Before.{between}
 use Rattle.jr_plan.specs.Transforms.{Lost, copied, Refactoring}
 use Rattle.jr_local.specs.Bodies.{begins}
 use Rattle.jr_local.specs.Scopes.{without, in_copy}
-use Rattle.jr_local.specs.Spaces.{last_kind, spaced}
+use Rattle.jr_moved_texts.specs.Spaces.{last_kind, spaced}
 use Rattle.jr_local.specs.Texts.{HasText, EndsToken}
 use Rattle.jr_local.specs.Crossing.{Crossed}
 use Rattle.jr_local.specs.Inlining.{

@@ -1,6 +1,5 @@
 pub mod Bodies
 pub mod BodyFacts
-pub mod Spaces
 pub mod Texts
 pub mod Scopes
 pub mod Soundness

@@ -5,7 +5,7 @@ use Rattle.jr_lex.specs.declared.items.Item.{Item}
 use Rattle.jr_lex.specs.declared.items.TokenKind.{TokenKind}
 use Rattle.jr_lex.specs.Lexes.{Lexes}
 use Rattle.jr_bind.specs.Programs.{File, Program}
-use Rattle.jr_local.specs.Spaces.{ending_at}
+use Rattle.jr_moved_texts.specs.Spaces.{ending_at}
 
 abbrev pub HasText : Program Span → (file : ℕ) → List ℕ → Type 0
 HasText p file text = (f : File Span) × (slice_get p.files file ≡ Some f) × (f.text ≡ text)

@@ -1,0 +1,2 @@
+-- `Decoding`: a way is found again by its path.
+pub mod Decoding
