@@ -1,10 +1,16 @@
 -- Lines are put behind others: they are counted, and kept while they are few.
-use Rattle.std.proofs.Common.{◌≡◌, ◌≤◌, ◌+◌, ℕ, List, [], ◌∷◌, ◌++◌, length, sym, ap, subst, ◌∙◌, append_assoc, arith}
-use Rattle.std.proofs.lemmas.List.{append-nil}
-use Rattle.std.proofs.lemmas.List.Sums.{sum_by_push}
+use Rattle.std.proofs.Common.{◌≡◌, ◌<◌, ◌≤◌, ◌+◌, ℕ, suc, List, [], ◌∷◌, ◌++◌, codes, length, map, refl, sym, ap, subst, ◌∙◌, append_assoc, arith}
+use Rattle.std.specs.Prelude.{Contains, slice_index, slice_index_or}
+use Rattle.std.specs.List.{sum_by}
+use Rattle.std.proofs.Math.ListN.{get_or-map}
+use Rattle.std.proofs.lemmas.List.{append-nil, length-append}
+use Rattle.std.proofs.lemmas.List.Sums.{sum_by-append, sum_by_push}
 use Rattle.jr_lines.specs.Lines.{bytes_of}
+use Rattle.jr_dependences.specs.declared.dependence.Dependence.{Dependence}
+use Rattle.jr_dependences.specs.KindNames.{kind_name}
+use Rattle.jr_dependences.specs.Weights.{weight}
 use Rattle.jr_dependence_lines.specs.declared.tallies.Tally.{Tally}
-use Rattle.jr_dependence_lines.specs.Tallies.{Tallies, Puts}
+use Rattle.jr_dependence_lines.specs.Tallies.{Tallies, Puts, front_len, told, all_told}
 
 -- one more line is counted, and kept where there are few bytes with it
 pub puts_one : (old new : Tally) (text : List ℕ) → new.most ≡ old.most → new.len ≡ old.len + length text → (new.len ≤ old.most → new.lines.items ≡ old.lines.items ++ text ∷ []) → Puts old new (text ∷ [])
@@ -29,3 +35,44 @@ puts_then a b c xs ys f g before limit there h = subst (λ l. Tallies before lim
 -- other texts that are the same
 pub puts_as : (a b : Tally) (xs ys : List (List ℕ)) → xs ≡ ys → Puts a b xs → Puts a b ys
 puts_as a b xs ys e f = subst (λ l. Puts a b l) e f
+
+-- where there are too many bytes, lines are counted only
+pub puts_past : (old new : Tally) (texts : List (List ℕ)) → old.most < old.len → new.most ≡ old.most → new.len ≡ old.len + bytes_of texts → Puts old new texts
+puts_past old new texts past most len before limit there h = record {
+  most_is = most ∙ h.most_is;
+  counted = len ∙ ap (λ n. n + bytes_of texts) h.counted ∙ sum;
+  kept = λ le. let is = h.most_is in absurd (omega (arith, past, le, len, is));
+}
+  where
+    sum : before + bytes_of there + bytes_of texts ≡ before + bytes_of (there ++ texts)
+    sum = let all : bytes_of (there ++ texts) ≡ bytes_of there + bytes_of texts = sum_by-append (λ (l : List ℕ). length l) there texts in omega (arith, all)
+
+-- ---- what lines weigh
+
+module _ (head : List ℕ) (places : List (List ℕ)) (first : ℕ) where
+  abbrev w : Dependence → ℕ
+  w d = weight (front_len head places first) (map length places) d
+
+  line_len : (d : Dependence) → d.first ≡ first → w d ≡ length (told head places d)
+  line_len d is =
+      let blank = codes " " in
+      let kind = kind_name d.kind in
+      let from = slice_index_or places d.first [] in
+      let to = slice_index_or places d.second [] in
+      let one = length-append head (blank ++ kind ++ blank ++ from ++ blank ++ to) in
+      let two = length-append blank (kind ++ blank ++ from ++ blank ++ to) in
+      let three = length-append kind (blank ++ from ++ blank ++ to) in
+      let four = length-append blank (from ++ blank ++ to) in
+      let five = length-append from (blank ++ to) in
+      let six = length-append blank to in
+      let space : length blank ≡ 1 = refl in
+      let near : length (slice_index_or places first []) ≡ length from = ap (λ n. length (slice_index_or places n [])) (sym is) in
+      let far : slice_index (map length places) d.second ≡ length to = get_or-map length places d.second [] in
+      omega (arith, one, two, three, four, five, six, space, near, far)
+
+  pub lines_len : (list : List Dependence) → ((d : Dependence) → Contains list d → d.first ≡ first) → sum_by w list ≡ bytes_of (all_told head places list)
+  lines_len [] on = refl
+  lines_len (d ∷ ds) on =
+      let this = line_len d (on d (0, omega arith, refl)) in
+      let rest = lines_len ds (λ e at. on e (suc at.0, omega (arith, at.1), at.2)) in
+      λ i. this i + rest i

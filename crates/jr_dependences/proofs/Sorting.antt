@@ -1,30 +1,33 @@
--- Which dependences there can't be between two sites: none where no path leads there, none but of
--- locals on a site of a local, and none of locals on another.
-use Rattle.std.proofs.Common.{◌≡◌, ℕ, Bool, true, false, true≢false, List, Option, Some, sym, ap, subst, ◌∙◌}
-use Rattle.std.specs.Prelude.{slice_get, Result, Ok, OnOk}
-use Rattle.std.proofs.lemmas.Result.{on_ok_weaker}
+-- Which dependences there can't be between two sites: none but of locals on a site of a local, and
+-- none of locals on another.
+use Rattle.std.proofs.Common.{◌≡◌, ℕ, Bool, true, false, true≢false, Option, sym}
+use Rattle.std.specs.Prelude.{IsTrue, ◌↔◌, ◌&&◌}
+use Rattle.std.proofs.lemmas.Bool.{and_from, and_parts, false≢true}
 use Rattle.jr_sync.specs.declared.sites.Site.{Site}
 use Rattle.jr_sync.specs.declared.sites.Site.TheVariants.{Read, Write, Access, Check, Call, Loop}
 use Rattle.jr_sync.specs.declared.sites.DepKind.{DepKind}
 use Rattle.jr_sync.specs.declared.sites.DepKind.TheVariants.{Order, Field, Sync, Flow, Anti, Output}
 use Rattle.jr_sync.specs.Relations.{Related}
-use Rattle.jr_flow.specs.declared.reach.Reach.{Reach}
 use Rattle.jr_flow.specs.declared.reached.Reached.{Reached}
-use Rattle.jr_flow.specs.Edges.{EdgeOf}
-use Rattle.jr_flow.specs.Pairs.{Comes}
-use Rattle.jr_flow.specs.Paths.{PathBetween, Path, edge, onward}
-use Rattle.jr_dependences.specs.declared.dependence.Dependence.{Dependence}
-use Rattle.jr_dependences.specs.Depends.{DependsIn}
-use Rattle.jr_dependences.specs.Known.{is_local, IsOfLocal, KnowsPaths}
-use Rattle.jr_dependences.specs.Listed.{IsBetween, IsOf, Adds}
-use Rattle.jr_dependences.proofs.Adding.{adds_none}
-use Rattle.jr_dependences.proofs.Asking.{six_kinds}
-use Rattle.jr_dependences.proofs.Leading.{same_item}
+use Rattle.jr_dependences.specs.declared.pairs.Kinds.{Kinds}
+use Rattle.jr_dependences.specs.Kinds.{has}
+use Rattle.jr_dependences.specs.Known.{is_local, Gives}
 
--- a path between stops is one
-forget : (E : ℕ → ℕ → Type 0) (S : ℕ → Type 0) (i j : ℕ) → PathBetween E S i j → Path E i j
-forget E S i j (edge a b e) = edge a b e
-forget E S i j (onward a b c e free p) = onward a b c e (λ n. n) (forget E S b c p)
+-- in no way
+abbrev pub none : Kinds
+none = record { order = false; field = false; sync = false; flow = false; anti = false; output = false }
+
+pub never : (kind : DepKind) → IsTrue (has none kind) → ⊥
+never Order e = false≢true e
+never Field e = false≢true e
+never Sync e = false≢true e
+never Flow e = false≢true e
+never Anti e = false≢true e
+never Output e = false≢true e
+
+-- two tests that hold together
+pub both : {P Q : Type 0} (a b : Bool) → (IsTrue a ↔ P) → (IsTrue b ↔ Q) → (IsTrue (a && b) ↔ (P × Q))
+both a b p q = (λ e. let parts = and_parts a b e in (p.0 parts.0, q.0 parts.1), λ h. and_from a b (p.1 h.0) (q.1 h.1))
 
 module _ {K L : Type 0} (F : K → K → Type 0) (M : L → L → Type 0) where
   local_order : (a b : Site K L) → is_local a ≡ true → Related F M Order a b → ⊥
@@ -75,37 +78,31 @@ module _ {K L : Type 0} (F : K → K → Type 0) (M : L → L → Type 0) where
   other_output Call b e h = h
   other_output Loop b e h = h
 
-  module _ (sites : List (Site K L)) (edges : List (ℕ × ℕ)) (first second : ℕ) where
-    abbrev H : Dependence → Type 0
-    H d = DependsIn F M sites edges d
+  module _ (a b : Site K L) where
+    pub of_local : (given : Option Reached) (second : ℕ) → is_local a ≡ true → (flow anti output : Bool) → (IsTrue flow ↔ (Gives given Flow second × Related F M Flow a b)) → (IsTrue anti ↔ Related F M Anti a b)
+        → (IsTrue output ↔ Related F M Output a b) → (kind : DepKind)
+        → (IsTrue (has (record { order = false; field = false; sync = false; flow = flow; anti = anti; output = output }) kind) ↔ (Gives given kind second × Related F M kind a b))
+    of_local given second is flow anti output f n o Order = (λ e. absurd (false≢true e), λ p. absurd (local_order a b is p.1))
+    of_local given second is flow anti output f n o Field = (λ e. absurd (false≢true e), λ p. absurd (local_field a b is p.1))
+    of_local given second is flow anti output f n o Sync = (λ e. absurd (false≢true e), λ p. absurd (local_sync a b is p.1))
+    of_local given second is flow anti output f n o Flow = f
+    of_local given second is flow anti output f n o Anti = (λ e. (tt, n.0 e), λ p. n.1 p.1)
+    of_local given second is flow anti output f n o Output = (λ e. (tt, o.0 e), λ p. o.1 p.1)
 
-    -- no path leads there
-    pub none_between : (reach : Reach) (flow : Option Reached) → KnowsPaths F M sites edges first reach flow → (Comes reach first second → ⊥) → (list : List Dependence) → Adds (IsBetween first second) H list list
-    none_between reach flow known apart list = adds_none H (IsBetween first second) list never
-      where
-        never : (x : Dependence) → IsBetween first second x → H x → ⊥
-        never x q p =
-            let way : Path (EdgeOf edges) x.first x.second = forget (EdgeOf edges) _ x.first x.second p.5 in
-            apart ((known.paths first second).1 (subst (λ j. Path (EdgeOf edges) first j) q.1 (subst (λ i. Path (EdgeOf edges) i x.second) q.0 way)))
+    pub of_other : is_local a ≡ false → (order field sync : Bool) → (IsTrue order ↔ Related F M Order a b) → (IsTrue field ↔ Related F M Field a b) → (IsTrue sync ↔ Related F M Sync a b) → (kind : DepKind)
+        → (IsTrue (has (record { order = order; field = field; sync = sync; flow = false; anti = false; output = false }) kind) ↔ Related F M kind a b)
+    of_other is order field sync r f s Order = r
+    of_other is order field sync r f s Field = f
+    of_other is order field sync r f s Sync = s
+    of_other is order field sync r f s Flow = (λ e. absurd (false≢true e), λ h. absurd (other_flow a b is h))
+    of_other is order field sync r f s Anti = (λ e. absurd (false≢true e), λ h. absurd (other_anti a b is h))
+    of_other is order field sync r f s Output = (λ e. absurd (false≢true e), λ h. absurd (other_output a b is h))
 
-    none_of : (kind : DepKind) (local : Bool) → IsOfLocal sites first local → ((a b : Site K L) → is_local a ≡ local → Related F M kind a b → ⊥) → (list : List Dependence) → Adds (IsOf kind first second) H list list
-    none_of kind local is apart list = adds_none H (IsOf kind first second) list never
-      where
-        never : (x : Dependence) → IsOf kind first second x → H x → ⊥
-        never x q p =
-            let there : slice_get sites first ≡ Some p.0 = subst (λ i. slice_get sites i ≡ Some p.0) q.1 p.2 in
-            apart p.0 p.1 (is p.0 there) (subst (λ (k : DepKind). Related F M k p.0 p.1) q.0 p.4)
-
-    pub of_local : {E : Type 0} → IsOfLocal sites first true → (l e f g : List Dependence) → Adds (IsOf Flow first second) H l e → Adds (IsOf Anti first second) H e f → (r : Result (Unit {0}) E) → OnOk r (Adds (IsOf Output first second) H f g) → OnOk r (Adds (IsBetween first second) H l g)
-    of_local is l e f g flow anti r output =
-        six_kinds H first second l l l l e f g (none_of Order true is local_order l) (none_of Field true is local_field l) (none_of Sync true is local_sync l) flow anti r output
-
-    pub of_other : {E : Type 0} → IsOfLocal sites first false → (l b c d : List Dependence) → Adds (IsOf Order first second) H l b → Adds (IsOf Field first second) H b c → (r : Result (Unit {0}) E) → OnOk r (Adds (IsOf Sync first second) H c d) → OnOk r (Adds (IsBetween first second) H l d)
-    of_other is l b c d order field r sync =
-        on_ok_weaker r
-        (λ s. six_kinds H first second {E = Unit {0}} l b c d d d d order field s (none_of Flow false is other_flow d) (none_of Anti false is other_anti d) (Ok tt) (none_of Output false is other_output d))
-        sync
-
--- the site that was read is the one there
-pub is_of_local : {K L : Type 0} (sites : List (Site K L)) (first : ℕ) (a : Site K L) (local : Bool) → slice_get sites first ≡ Some a → is_local a ≡ local → IsOfLocal sites first local
-is_of_local sites first a local at is x there = ap is_local (same_item x a (sym there ∙ at)) ∙ is
+    -- on a site of no local nothing has to be given
+    pub gives_other : is_local a ≡ false → (given : Option Reached) (second : ℕ) (kind : DepKind) → Related F M kind a b → Gives given kind second
+    gives_other is given second Flow h = absurd (other_flow a b is h)
+    gives_other is given second Order h = tt
+    gives_other is given second Field h = tt
+    gives_other is given second Sync h = tt
+    gives_other is given second Anti h = tt
+    gives_other is given second Output h = tt
