@@ -28,10 +28,10 @@ module _ {X : Type 0} (P : X → Type 0) (items : List X) where
   not_first n x lt at p = omega (arith, lt)
 
   pub not_more : (count : ℕ) (y : X) → slice_get items count ≡ Some y → (P y → ⊥) → NotYet count → NotYet (count + 1)
-  not_more count y there no before n x lt at p = by (cases_eq n count)
+  not_more count y there never before n x lt at p = by (cases_eq n count)
     where
       by : ((n ≡ count) ⊎ (n ≡ count → ⊥)) → ⊥
-      by (inl same) = no (subst P (same_item x y (sym at ∙ ap (slice_get items) same ∙ there)) p)
+      by (inl same) = never (subst P (same_item x y (sym at ∙ ap (slice_get items) same ∙ there)) p)
       by (inr other) = before n x (omega (arith, lt, other)) at p
 
   pub is_first : (number : ℕ) (y : X) → NotYet number → slice_get items number ≡ Some y → P y → IsFirst P items number

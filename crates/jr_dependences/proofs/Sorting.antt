@@ -99,10 +99,13 @@ module _ {K L : Type 0} (F : K → K → Type 0) (M : L → L → Type 0) where
     of_other is order field sync r f s Output = (λ e. absurd (false≢true e), λ h. absurd (other_output a b is h))
 
     -- on a site of no local nothing has to be given
-    pub gives_other : is_local a ≡ false → (given : Option Reached) (second : ℕ) (kind : DepKind) → Related F M kind a b → Gives given kind second
+    gives_other : is_local a ≡ false → (given : Option Reached) (second : ℕ) (kind : DepKind) → Related F M kind a b → Gives given kind second
     gives_other is given second Flow h = absurd (other_flow a b is h)
     gives_other is given second Order h = tt
     gives_other is given second Field h = tt
     gives_other is given second Sync h = tt
     gives_other is given second Anti h = tt
     gives_other is given second Output h = tt
+
+    pub given_other : is_local a ≡ false → (given : Option Reached) (second : ℕ) (kind : DepKind) (holds : Bool) → (IsTrue holds ↔ Related F M kind a b) → (IsTrue holds ↔ (Gives given kind second × Related F M kind a b))
+    given_other is given second kind holds h = (λ e. (gives_other is given second kind (h.0 e), h.0 e), λ p. h.1 p.1)

@@ -64,6 +64,10 @@ module _ {K L : Type 0} (F : K → K → Type 0) (M : L → L → Type 0) (sites
       → Gathers (WritesAgain F M sites a) (count + 1) (stops ++ count ∷ [])
   stop_more a s count stops is again h = gathers_more (WritesAgain F M sites a) count stops (s, is, again) h
 
+  -- the same stops
+  pub stops_as : (a : Site K L) (ns ms : List ℕ) → ns ≡ ms → ((n : ℕ) → (Contains ns n ↔ WritesAgain F M sites a n)) → (n : ℕ) → (Contains ms n ↔ WritesAgain F M sites a n)
+  stops_as a ns ms is h = subst (λ (l : List ℕ). (n : ℕ) → (Contains l n ↔ WritesAgain F M sites a n)) is h
+
   module _ (edges : List (ℕ × ℕ)) (first : ℕ) (site : Site K L) (is : slice_get sites first ≡ Some site) where
     pub flow_none : (IsReadIn F M sites site → ⊥) → TellsFlow F M sites edges first None
     flow_none unread a at read = unread (subst (IsReadIn F M sites) (same_item a site (sym at ∙ is)) read)

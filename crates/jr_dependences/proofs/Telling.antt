@@ -1,5 +1,5 @@
 -- The dependences that ways are: they are listed in order, and weigh what their ways do.
-use Rattle.std.proofs.Common.{◌≡◌, ◌+◌, ℕ, Bool, true, false, List, [], ◌++◌, refl, sym, subst, arith}
+use Rattle.std.proofs.Common.{◌≡◌, ◌+◌, ℕ, Bool, true, false, List, [], ◌++◌, refl, sym, ap, subst, ◌∙◌, append_assoc, arith}
 use Rattle.std.specs.Prelude.{IsTrue, ◌↔◌, ◌⊎◌, Ok, slice_index}
 use Rattle.std.specs.List.{sum_by}
 use Rattle.std.proofs.lemmas.Bool.{false≢true}
@@ -33,6 +33,15 @@ module _ (H : Dependence → Type 0) (first second : ℕ) where
       listed_alone H (IsBetween first second) f
       (six_kinds H first second {E = Unit {0}} [] a b c d e f (one_adds Order kinds.order (is Order) []) (one_adds Field kinds.field (is Field) a) (one_adds Sync kinds.sync (is Sync) b) (one_adds Flow kinds.flow (is Flow) c)
       (one_adds Anti kinds.anti (is Anti) d) (Ok tt) (one_adds Output kinds.output (is Output) e))
+
+-- one behind the other, behind a list
+pub six_behind : {X : Type 0} (l a b c d e f : List X) → (((((l ++ a) ++ b) ++ c) ++ d) ++ e) ++ f ≡ l ++ (((((a ++ b) ++ c) ++ d) ++ e) ++ f)
+six_behind l a b c d e f =
+    let two = append_assoc l a b in
+    let three = ap (λ x. x ++ c) two ∙ append_assoc l (a ++ b) c in
+    let four = ap (λ x. x ++ d) three ∙ append_assoc l ((a ++ b) ++ c) d in
+    let five = ap (λ x. x ++ e) four ∙ append_assoc l (((a ++ b) ++ c) ++ d) e in
+    ap (λ x. x ++ f) five ∙ append_assoc l ((((a ++ b) ++ c) ++ d) ++ e) f
 
 -- listed ones are put behind any list
 pub adds_listed : (Q H : Dependence → Type 0) (old more : List Dependence) → IsListed Q H more → Adds Q H old (old ++ more)
@@ -86,3 +95,6 @@ module _ (H : Dependence → Type 0) (each : ℕ) (seconds : List ℕ) where
   -- the same ones, asked for otherwise
   pub weighs_same : (Q R : Dependence → Type 0) (total : ℕ) → ((x : Dependence) → H x → (Q x ↔ R x)) → Weighs Q H each seconds total → Weighs R H each seconds total
   weighs_same Q R total same h = (h.0, listed_same H Q R h.0 same h.1, h.2)
+
+pub both_ways : {P Q R : Type 0} → (P ↔ Q) → (Q ↔ R) → (P ↔ R)
+both_ways f s = (λ p. s.0 (f.0 p), λ r. f.1 (s.1 r))

@@ -1,12 +1,8 @@
 //! Sites that name fields and locals by numbers: a key's number is that of the first site that has
 //! it.
-ghost use Rattle.std.specs.Prelude.{ℕ, ◌↔◌, ◌<◌, ◌^◌, List, Some, IfOk, IsTrue, length, map};
-ghost use Rattle.std.specs.List.{AllZip};
-ghost use Rattle.jr_sync.specs.Sites.{field_of};
-ghost use Rattle.jr_sync.specs.Relations.{Agree};
-ghost use Rattle.jr_dependences.specs.Depends.{DependsIn};
-ghost use Rattle.jr_dependences.specs.Numbers.{local_of, HasField, HasLocal, IsFirst, IsNumbered};
-ghost use Rattle.jr_dependences.specs.Numbers.{SameNumber, IsRowOf};
+ghost use Rattle.std.specs.Prelude.{◌≡◌, ◌↔◌, ◌<◌, ◌^◌, IfOk, IsTrue, length, map};
+ghost use Rattle.jr_dependences.specs.Numbers.{HasField, HasLocal, IsFirst};
+ghost use Rattle.jr_dependences.specs.Numbers.{IsFieldNumber, IsNumbered, IsRowOf};
 
 use jr_sync::Site;
 use std::alloc::{AllocError, Global};
@@ -64,6 +60,18 @@ fn local_number<K: Eq, L: Eq>(sites: &[&Site<K, L>], local: &L) -> u32
     0
 }
 
+/// The number of a field, if there is one.
+fn number_of<K: Eq, L: Eq>(sites: &[&Site<K, L>], field: &Option<K>) -> Option<u32>
+    requires { length sites.now < 2 ^ 32 }
+    ensures { IsFieldNumber (λ x y. IsTrue (K.eq x y)) (λ x y. IsTrue (L.eq x y))
+        (map (λ s. s.now) sites.now) field.now result }
+{
+    match field {
+        None => None,
+        Some(field) => Some(field_number(sites, field)),
+    }
+}
+
 /// The same site by numbers.
 fn numbered_site<K: Eq, L: Eq>(sites: &[&Site<K, L>], site: &Site<K, L>) -> NumberedSite
     requires { length sites.now < 2 ^ 32 }
@@ -73,11 +81,7 @@ fn numbered_site<K: Eq, L: Eq>(sites: &[&Site<K, L>], site: &Site<K, L>) -> Numb
     match site {
         Site::Read(local) => Site::Read(local_number(sites, local)),
         Site::Write(local) => Site::Write(local_number(sites, local)),
-        Site::Access(kind, Some(field)) => {
-            let number = field_number(sites, field);
-            Site::Access(*kind, Some(number))
-        }
-        Site::Access(kind, None) => Site::Access(*kind, None),
+        Site::Access(kind, field) => Site::Access(*kind, number_of(sites, field)),
         Site::Check => Site::Check,
         Site::Call => Site::Call,
         Site::Loop => Site::Loop,

@@ -1,6 +1,5 @@
 //! What dependences weigh together, without a list of them.
 ghost use Rattle.std.specs.Prelude.{◌≡◌, ℕ, List, ◌+◌, ◌<◌, ◌^◌, IfOk, IfSome, length};
-ghost use Rattle.std.specs.List.{sum_by};
 ghost use Rattle.jr_flow.specs.Edges.{EdgeOf};
 ghost use Rattle.jr_flow.specs.Paths.{Path};
 ghost use Rattle.jr_flow.specs.Pairs.{Tells};
@@ -19,6 +18,13 @@ use jr_flow::{Graph, Reach, Reached};
 use jr_sync::DepKind;
 use std::alloc::{AllocError, Global};
 
+/// Both together, if 64 bits hold it.
+fn sum(one: u64, other: u64) -> Option<u64>
+    ensures { IfSome result (λ n. n ≡ one + other) }
+{
+    one.checked_add(other)
+}
+
 /// Adds the name of a kind and so much more, if a dependence holds.
 fn add_kind(total: u64, holds: bool, kind: DepKind, more: u64) -> Option<u64>
     ensures { IfSome result (λ n. n ≡ total + one_weight holds kind more) }
@@ -26,8 +32,8 @@ fn add_kind(total: u64, holds: bool, kind: DepKind, more: u64) -> Option<u64>
     if !holds {
         return Some(total);
     }
-    let weight = more.checked_add(kind_name(kind).len() as u64)?;
-    total.checked_add(weight)
+    let weight = sum(more, kind_name(kind).len() as u64)?;
+    sum(total, weight)
 }
 
 /// Adds what the dependences of one site on another weigh.
@@ -61,7 +67,7 @@ fn weigh_seconds(
     let mut total = 0u64;
     for second in 0..sites.len() {
         let kinds = kinds_between(reach, flow, sites, first, second as u32);
-        let more = each.checked_add(seconds[second])?;
+        let more = sum(each, seconds[second])?;
         total = add_kinds(total, kinds, more)?;
     }
     Some(total)

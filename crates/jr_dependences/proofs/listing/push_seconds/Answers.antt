@@ -18,8 +18,8 @@ loop-second-preserved c edges known =
     let H = DependsIn SameNumber SameNumber c.args.sites.now edges in
     let first = c.args.first in
     let second = c.loop-second.second in
-    let kinds = c.kinds_between.result in
-    let more = adds_listed (IsBetween first second) H c.loop-second.list.items (told kinds first second) (told_listed H first second kinds (c.kinds_between.ensures edges known)) in
+    let kinds = c.kinds_between-kinds.result in
+    let more = adds_listed (IsBetween first second) H c.loop-second.list.items (told kinds first second) (told_listed H first second kinds (c.kinds_between-kinds.ensures edges known)) in
     adds_then H (IsUpTo first second) (IsBetween first second) (IsUpTo first (second + 1)) c.args.list.now.items c.loop-second.list.items c.push_kinds.new.list.items (c.loop-second.invariant edges known)
     (subst (λ (l : List Dependence). Adds (IsBetween first second) H c.loop-second.list.items l) (sym c.in_ok-push_kinds.ensures) more) (up_to_before first second) (λ x h. up_to_more first second x)
 

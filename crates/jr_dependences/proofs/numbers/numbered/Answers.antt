@@ -1,4 +1,4 @@
-use Rattle.std.proofs.Common.{◌≡◌, ◌∷◌, ◌++◌, [], List, length, map, take, get_or, sym, ap, subst, ◌∙◌, arith}
+use Rattle.std.proofs.Common.{◌≡◌, ◌+◌, ◌∷◌, ◌++◌, [], List, length, map, take, get_or, sym, ap, subst, ◌∙◌, arith}
 use Rattle.std.specs.Prelude.{IsTrue}
 use Rattle.std.specs.List.{AllZip}
 use Rattle.std.proofs.lemmas.List.{length-map, take_more, take_all}
@@ -11,7 +11,8 @@ use Rattle.jr_dependences.proofs.Pointing.{item_at}
 use Rattle.jr_dependences.proofs.numbers.numbered.Goals as goal
 
 pub loop-n-init : goal.loop-n-init
-loop-n-init g c = tt
+loop-n-init g c =
+    subst (λ l. AllZip (IsNumbered (λ x y. IsTrue (g.K.PartialEq.eq x y)) (λ x y. IsTrue (g.L.PartialEq.eq x y)) (map (λ s. s.now) c.args.sites.now)) [] l) (sym c.in_ok-row.ensures.items) tt
 
 pub loop-n-preserved : goal.loop-n-preserved
 loop-n-preserved g c =
@@ -23,8 +24,8 @@ loop-n-preserved g c =
     let lt = c.loop-n-test.true in
     let count = length-map c.args.sites.now (λ s. s.now) in
     let more : take (n + 1) sites ≡ take n sites ++ site ∷ [] = take_more sites n site (omega (arith, lt, count)) ∙ ap (λ s. take n sites ++ s ∷ []) (get_or_from_slice_get sites n site site at) in
-    subst (λ l. AllZip Numbered l c.row.items) (sym more)
-    (subst (λ l. AllZip Numbered (take n sites ++ site ∷ []) l) (sym c.in_ok-push.ensures.items) (zip_push Numbered (take n sites) c.loop-n.row.items site c.numbered_site.result c.loop-n.invariant c.numbered_site.ensures))
+    subst (λ l. AllZip Numbered (take (n + 1) sites) l) (sym c.in_ok-push.ensures.items)
+    (subst (λ l. AllZip Numbered l (c.loop-n.row.items ++ c.numbered_site.result ∷ [])) (sym more) (zip_push Numbered (take n sites) c.loop-n.row.items site c.numbered_site.result c.loop-n.invariant c.numbered_site.ensures))
 
 pub returns-clause-count : goal.returns-clause-count
 returns-clause-count g c =
