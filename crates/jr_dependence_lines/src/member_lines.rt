@@ -8,12 +8,11 @@ ghost use Rattle.jr_dependences.specs.declared.dependence.Dependence as pure;
 ghost use Rattle.jr_dependences.specs.Depends.{DependsIn};
 ghost use Rattle.jr_dependences.specs.Numbers.{SameNumber};
 ghost use Rattle.jr_dependence_lines.specs.Tallies.{AreAll, Puts, PutsGraph, PutsOn, all_told};
-ghost use Rattle.jr_dependence_lines.specs.Tallies.{AreTextsOf, front_len, place_texts, told};
+ghost use Rattle.jr_dependence_lines.specs.Tallies.{AreTextsOf, place_texts, told};
 
 use crate::tallies::{Tally, Words, count, put};
 use jr_ast::Name;
-use jr_dependences::{Dependence, NumberedSite};
-use jr_dependences::{dependences_on, kind_name, numbered, weight_on};
+use jr_dependences::{Dependence, NumberedSite, dependences_on, kind_name, numbered, weight_on};
 use jr_effect::bare;
 use jr_flow::{Graph, Reach, reachable};
 use jr_sites::{PlacedSite, SiteGraph};
@@ -104,13 +103,10 @@ fn put_lines(
 }
 
 // How many bytes a line has without the text of its kind and of its second place.
-fn len_before(texts: &Texts<'_>, first: u32) -> Option<u64>
-    requires { first < length texts.now.places.now }
-    ensures { IfSome result (λ n. n ≡ front_len texts.now.head.now
-        texts.now.places.now first) }
+fn front_len(head: &str, place: &str) -> Option<u64>
+    ensures { IfSome result (λ n. n ≡ length head.now + length place.now + 3) }
 {
-    let place = texts.places[first as usize].as_str();
-    let len = (texts.head.len() as u64).checked_add(place.len() as u64)?;
+    let len = (head.len() as u64).checked_add(place.len() as u64)?;
     len.checked_add(3)
 }
 
@@ -132,7 +128,8 @@ fn count_on(
     ensures { OnOk result (PutsOn texts.now.head.now texts.now.places.now first
         (DependsIn SameNumber SameNumber row.now graph.now.edges.items) tally.old tally.new) }
 {
-    let Some(each) = len_before(texts, first) else {
+    let place = texts.places[first as usize].as_str();
+    let Some(each) = front_len(texts.head, place) else {
         return Err(AllocError);
     };
     let bytes = weight_on(alloc, graph, reach, row, first, each, texts.lens)?;
@@ -195,10 +192,11 @@ pub(crate) fn put_graph(
     ensures { OnOk result (PutsGraph head.now start of.now tally.old tally.new) }
 {
     let names = place_names(alloc, start, &of.sites)?;
-    let lens = lens_of(alloc, names.as_slice())?;
+    let places = names.as_slice();
+    let lens = lens_of(alloc, places)?;
     let texts = Texts {
         head,
-        places: names.as_slice(),
+        places,
         lens: lens.as_slice(),
     };
     put_dependences(alloc, of, &texts, tally)

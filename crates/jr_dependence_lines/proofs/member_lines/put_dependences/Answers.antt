@@ -1,15 +1,40 @@
-use Rattle.std.proofs.Common.{◌≡◌, ◌++◌, [], List, ℕ, length, map, sym, ap, subst, ◌∙◌, arith}
+use Rattle.std.proofs.Common.{◌≡◌, ◌<◌, ◌++◌, [], List, ℕ, length, map, sym, ap, subst, ◌∙◌, arith}
 use Rattle.std.proofs.lemmas.List.{length-map, map-append}
 use Rattle.jr_sync.specs.declared.sites.Site.{Site}
 use Rattle.jr_sites.specs.declared.sites.PlacedSite.{PlacedSite}
 use Rattle.jr_dependences.specs.declared.dependence.Dependence.{Dependence}
 use Rattle.jr_dependences.specs.Depends.{DependsIn}
 use Rattle.jr_dependences.specs.Listed.{IsOn, IsListed}
-use Rattle.jr_dependences.specs.Numbers.{SameNumber, IsRowOf}
+use Rattle.jr_dependences.specs.Numbers.{SameNumber}
 use Rattle.jr_dependence_lines.specs.Tallies.{told, all_told}
 use Rattle.jr_dependence_lines.proofs.Counting.{puts_none, puts_then, puts_as}
 use Rattle.jr_dependence_lines.proofs.Listing.{none_listed, more_listed, all_listed, listed_numbered}
 use Rattle.jr_dependence_lines.proofs.member_lines.put_dependences.Goals as goal
+
+pub numbered-requires : goal.numbered-requires
+numbered-requires c = let few = c.in_ok-sites.ensures.few in let same = ap length c.deref-2.ensures.value in omega (arith, few, same)
+
+pub put_on-requires-clause-few : goal.put_on-requires-clause-few
+put_on-requires-clause-few c =
+    let few = c.in_ok-sites.ensures.few in
+    let sites = ap length c.deref-2.ensures.value in
+    let count = c.in_ok-row.ensures.count in
+    let row = ap length c.deref-in-loop-first.ensures.value in
+    omega (arith, few, sites, count, row)
+
+pub put_on-requires-clause-first : goal.put_on-requires-clause-first
+put_on-requires-clause-first c =
+    let lt = c.loop-first-test.true in
+    let end : c.len-first-end.result ≡ length c.in_ok-row.row.items = c.len-first-end.ensures ∙ c.in_ok-row.row.ok.0 in
+    let row = ap length c.deref-in-loop-first.ensures.value in
+    omega (arith, lt, end, row)
+
+pub put_on-requires-clause-texts : goal.put_on-requires-clause-texts
+put_on-requires-clause-texts c =
+    let of = c.args.of.now in
+    let sites : length c.deref-2.result.now ≡ length of.sites.items =
+    sym (length-map c.deref-2.result.now (λ s. s.now)) ∙ ap length (ap (map (λ s. s.now)) c.deref-2.ensures.value ∙ c.in_ok-sites.ensures.row ∙ ap (map (λ (s : PlacedSite). s.site)) c.deref.ensures.value) ∙ length-map of.sites.items (λ (s : PlacedSite). s.site) in
+    (c.requires.0 ∙ sym (ap length c.deref-in-loop-first.ensures.value ∙ c.in_ok-row.ensures.count ∙ sites), c.requires.1)
 
 pub loop-first-init : goal.loop-first-init
 loop-first-init c = ([], none_listed (DependsIn SameNumber SameNumber c.in_ok-row.row.items c.args.of.now.graph.edges.items), puts_none c.args.tally.now)
@@ -30,4 +55,13 @@ loop-first-preserved c =
     )
 
 pub returns : goal.returns
-returns c = ?
+returns c =
+    let of = c.args.of.now in
+    let keys = ap (map (λ s. s.now)) c.deref-2.ensures.value ∙ c.in_ok-sites.ensures.row ∙ ap (map (λ (s : PlacedSite). s.site)) c.deref.ensures.value in
+    let sites : length c.deref-2.result.now ≡ length of.sites.items = sym (length-map c.deref-2.result.now (λ s. s.now)) ∙ ap length keys ∙ length-map of.sites.items (λ (s : PlacedSite). s.site) in
+    let count : length c.in_ok-row.row.items ≡ length of.sites.items = c.in_ok-row.ensures.count ∙ sites in
+    let end : c.len-first-end.result ≡ length c.in_ok-row.row.items = c.len-first-end.ensures ∙ c.in_ok-row.row.ok.0 in
+    let le = c.loop-first-test.false in
+    let list = c.loop-first.invariant.0 in
+    let listed = listed_numbered of (map (λ s. s.now) c.deref-2.result.now) keys c.in_ok-row.row.items c.in_ok-row.ensures.depend (λ d. d.first < c.loop-first.first) list c.loop-first.invariant.1 in
+    (list, all_listed of c.loop-first.first list (omega (arith, le, end, count)) listed, c.loop-first.invariant.2)
