@@ -14,6 +14,27 @@ has kinds Flow = kinds.flow
 has kinds Anti = kinds.anti
 has kinds Output = kinds.output
 
+-- in no way, and in the first alone
+abbrev pub none : Kinds
+none = record {
+  order = false;
+  field = false;
+  sync = false;
+  flow = false;
+  anti = false;
+  output = false;
+}
+
+abbrev pub ordered : Kinds
+ordered = record {
+  order = true;
+  field = false;
+  sync = false;
+  flow = false;
+  anti = false;
+  output = false;
+}
+
 -- what is listed of a kind
 abbrev pub told_one : (holds : Bool) → DepKind → (first second : ℕ) → List Dependence
 told_one true kind first second = record { kind = kind; first = first; second = second } ∷ []

@@ -3,7 +3,8 @@ ghost use Rattle.std.specs.Prelude.{◌≡◌, ℕ, ◌↔◌, ◌<◌, List, tr
 ghost use Rattle.jr_sync.specs.Relations.{Related};
 ghost use Rattle.jr_dependences.specs.Depends.{Depends};
 ghost use Rattle.jr_dependences.specs.Known.{Gives, KnowsPaths, is_local};
-ghost use Rattle.jr_dependences.specs.Kinds.{has};
+ghost use Rattle.jr_sync.specs.Sites.{is_wild};
+ghost use Rattle.jr_dependences.specs.Kinds.{has, none, ordered};
 ghost use Rattle.jr_dependences.specs.Numbers.{SameNumber};
 
 use crate::numbers::NumberedSite;
@@ -21,13 +22,55 @@ pub(crate) struct Kinds {
     pub output: bool,
 }
 
+/// It doesn't.
+#[inline(always)]
+fn in_no_way() -> Kinds
+    ensures { result ≡ none }
+{
+    Kinds {
+        order: false,
+        field: false,
+        sync: false,
+        flow: false,
+        anti: false,
+        output: false,
+    }
+}
+
+/// One may throw, call or loop, and the other too, or it is an access.
+#[inline(always)]
+fn in_order() -> Kinds
+    ensures { result ≡ ordered }
+{
+    Kinds {
+        order: true,
+        field: false,
+        sync: false,
+        flow: false,
+        anti: false,
+        output: false,
+    }
+}
+
 /// Whether the site is of a local.
+#[inline(always)]
 fn is_local(site: &NumberedSite) -> bool
     ensures { result ≡ is_local site.now }
 {
     match site {
         Site::Read(_) | Site::Write(_) => true,
         Site::Access(_, _) | Site::Check | Site::Call | Site::Loop => false,
+    }
+}
+
+/// Whether the site is a test, a call or a loop.
+#[inline(always)]
+fn is_wild(site: &NumberedSite) -> bool
+    ensures { result ≡ is_wild site.now }
+{
+    match site {
+        Site::Check | Site::Call | Site::Loop => true,
+        Site::Read(_) | Site::Write(_) | Site::Access(_, _) => false,
     }
 }
 
@@ -63,14 +106,23 @@ fn kinds_of_local(
     }
 }
 
-/// How a site depends on another before it: of locals there are none.
+/// How a site depends on another before it: of locals there are none. Cheap tests come first: most
+/// sites stand beside one that is no access.
+#[inline(always)]
 fn kinds_of_other(before: &NumberedSite, behind: &NumberedSite) -> Kinds
     requires { is_local before.now ≡ false }
     ensures { (kind : DepKind) → (IsTrue (has result kind)
         ↔ Related SameNumber SameNumber kind before.now behind.now) }
 {
+    if is_local(behind) {
+        return in_no_way();
+    }
+    let is_ordered = is_wild(behind) | is_wild(before);
+    if is_ordered {
+        return in_order();
+    }
     Kinds {
-        order: related(DepKind::Order, before, behind),
+        order: false,
         field: related(DepKind::Field, before, behind),
         sync: related(DepKind::Sync, before, behind),
         flow: false,
@@ -81,6 +133,7 @@ fn kinds_of_other(before: &NumberedSite, behind: &NumberedSite) -> Kinds
 
 /// How the second site depends on the first. Where no path leads from the one to the other it
 /// doesn't.
+#[inline(always)]
 pub(crate) fn kinds_between(
     reach: &Reach,
     flow: &Option<Reached>,
@@ -95,14 +148,7 @@ pub(crate) fn kinds_between(
         ↔ Depends SameNumber SameNumber sites.now edges kind first second) }
 {
     if !reach.comes(first, second) {
-        return Kinds {
-            order: false,
-            field: false,
-            sync: false,
-            flow: false,
-            anti: false,
-            output: false,
-        };
+        return in_no_way();
     }
     let before = &sites[first as usize];
     let behind = &sites[second as usize];

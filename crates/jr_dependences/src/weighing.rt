@@ -19,6 +19,7 @@ use jr_sync::DepKind;
 use std::alloc::{AllocError, Global};
 
 /// Both together, if 64 bits hold it.
+#[inline(always)]
 fn sum(one: u64, other: u64) -> Option<u64>
     ensures { IfSome result (λ n. n ≡ one + other) }
 {
@@ -26,6 +27,7 @@ fn sum(one: u64, other: u64) -> Option<u64>
 }
 
 /// Adds the name of a kind and so much more, if a dependence holds.
+#[inline(always)]
 fn add_kind(total: u64, holds: bool, kind: DepKind, more: u64) -> Option<u64>
     ensures { IfSome result (λ n. n ≡ total + one_weight holds kind more) }
 {
@@ -37,6 +39,7 @@ fn add_kind(total: u64, holds: bool, kind: DepKind, more: u64) -> Option<u64>
 }
 
 /// Adds what the dependences of one site on another weigh.
+#[inline(always)]
 fn add_kinds(total: u64, kinds: Kinds, more: u64) -> Option<u64>
     ensures { IfSome result (λ n. n ≡ total + all_weights kinds more) }
 {

@@ -1,6 +1,7 @@
 use Rattle.std.proofs.Common.{sym, ◌∙◌}
 use Rattle.std.proofs.lemmas.Bool.{iff_false}
 use Rattle.std.proofs.lemmas.Option.{slice_get-get_or}
+use Rattle.jr_dependences.specs.Kinds.{has}
 use Rattle.jr_dependences.specs.Numbers.{SameNumber}
 use Rattle.jr_dependences.proofs.Leading.{never_apart, depends_is}
 use Rattle.jr_dependences.proofs.Sorting.{never, given_other}
@@ -8,7 +9,7 @@ use Rattle.jr_dependences.proofs.pairs.kinds_between.Goals as goal
 
 pub returns-then-not-comes : goal.returns-then-not-comes
 returns-then-not-comes c edges known kind =
-    (λ e. absurd (never kind e), λ h. absurd (never_apart SameNumber SameNumber c.args.sites.now edges c.args.first c.args.reach.now c.args.flow.now known c.args.second (iff_false c.comes.ensures c.if-not-comes.true) kind h))
+    (λ e. absurd (never kind (sym (λ i. has (c.in_no_way.ensures i) kind) ∙ e)), λ h. absurd (never_apart SameNumber SameNumber c.args.sites.now edges c.args.first c.args.reach.now c.args.flow.now known c.args.second (iff_false c.comes.ensures c.if-not-comes.true) kind h))
 
 pub returns-then-is_local : goal.returns-then-is_local
 returns-then-is_local c edges known kind =
