@@ -49,30 +49,45 @@ puts_past old new texts past most len before limit there h = record {
 
 -- ---- what lines weigh
 
+sum_first : {X : Type 0} (f : X → ℕ) (x : X) (xs : List X) → sum_by f (x ∷ xs) ≡ f x + sum_by f xs
+sum_first {X = X} f x xs =
+    let all : sum_by f (x ∷ xs) ≡ sum_by f (x ∷ []) + sum_by f xs = sum_by-append f (x ∷ []) xs in
+    let one : sum_by f (x ∷ []) ≡ f x = omega arith in
+    omega (arith, all, one)
+
+behind : (xs ys : List ℕ) → length (xs ++ codes " " ++ ys) ≡ length xs + (1 + length ys)
+behind xs ys =
+    let one : length (xs ++ (codes " " ++ ys)) ≡ length xs + length (codes " " ++ ys) = length-append xs (codes " " ++ ys) in
+    let two : length (codes " " ++ ys) ≡ length (codes " ") + length ys = length-append (codes " ") ys in
+    let space : length (codes " ") ≡ 1 = refl in
+    omega (arith, one, two, space)
+
+words_len : (head kind from to : List ℕ) → length (head ++ codes " " ++ kind ++ codes " " ++ from ++ codes " " ++ to) ≡ length head + length kind + length from + length to + 3
+words_len head kind from to =
+    let one : length (head ++ codes " " ++ (kind ++ codes " " ++ from ++ codes " " ++ to)) ≡ length head + (1 + length (kind ++ codes " " ++ from ++ codes " " ++ to)) = behind head (kind ++ codes " " ++ from ++ codes " " ++ to) in
+    let two : length (kind ++ codes " " ++ (from ++ codes " " ++ to)) ≡ length kind + (1 + length (from ++ codes " " ++ to)) = behind kind (from ++ codes " " ++ to) in
+    let three : length (from ++ codes " " ++ to) ≡ length from + (1 + length to) = behind from to in
+    omega (arith, one, two, three)
+
 module _ (head : List ℕ) (places : List (List ℕ)) (first : ℕ) where
   abbrev w : Dependence → ℕ
   w d = weight (front_len head places first) (map length places) d
 
   line_len : (d : Dependence) → d.first ≡ first → w d ≡ length (told head places d)
   line_len d is =
-      let blank = codes " " in
       let kind = kind_name d.kind in
       let from = slice_index_or places d.first [] in
       let to = slice_index_or places d.second [] in
-      let one = length-append head (blank ++ kind ++ blank ++ from ++ blank ++ to) in
-      let two = length-append blank (kind ++ blank ++ from ++ blank ++ to) in
-      let three = length-append kind (blank ++ from ++ blank ++ to) in
-      let four = length-append blank (from ++ blank ++ to) in
-      let five = length-append from (blank ++ to) in
-      let six = length-append blank to in
-      let space : length blank ≡ 1 = refl in
       let near : length (slice_index_or places first []) ≡ length from = ap (λ n. length (slice_index_or places n [])) (sym is) in
       let far : slice_index (map length places) d.second ≡ length to = get_or-map length places d.second [] in
-      omega (arith, one, two, three, four, five, six, space, near, far)
+      let words : length (told head places d) ≡ length head + length kind + length from + length to + 3 = words_len head kind from to in
+      omega (arith, near, far, words)
 
   pub lines_len : (list : List Dependence) → ((d : Dependence) → Contains list d → d.first ≡ first) → sum_by w list ≡ bytes_of (all_told head places list)
   lines_len [] on = refl
   lines_len (d ∷ ds) on =
-      let this = line_len d (on d (0, omega arith, refl)) in
-      let rest = lines_len ds (λ e at. on e (suc at.0, omega (arith, at.1), at.2)) in
-      λ i. this i + rest i
+      let this : w d ≡ length (told head places d) = line_len d (on d (0, omega arith, refl)) in
+      let rest : sum_by w ds ≡ bytes_of (all_told head places ds) = lines_len ds (λ e at. on e (suc at.0, omega (arith, at.1), at.2)) in
+      let one : sum_by w (d ∷ ds) ≡ w d + sum_by w ds = sum_first w d ds in
+      let two : bytes_of (told head places d ∷ all_told head places ds) ≡ length (told head places d) + bytes_of (all_told head places ds) = sum_first (λ (l : List ℕ). length l) (told head places d) (all_told head places ds) in
+      omega (arith, this, rest, one, two)
