@@ -55,18 +55,18 @@ sum_first {X = X} f x xs =
     let one : sum_by f (x ∷ []) ≡ f x = omega arith in
     omega (arith, all, one)
 
-behind : (xs ys : List ℕ) → length (xs ++ codes " " ++ ys) ≡ length xs + (1 + length ys)
+behind : (xs ys : List ℕ) → length ((xs ++ codes " ") ++ ys) ≡ length xs + length ys + 1
 behind xs ys =
-    let one : length (xs ++ (codes " " ++ ys)) ≡ length xs + length (codes " " ++ ys) = length-append xs (codes " " ++ ys) in
-    let two : length (codes " " ++ ys) ≡ length (codes " ") + length ys = length-append (codes " ") ys in
+    let one : length ((xs ++ codes " ") ++ ys) ≡ length (xs ++ codes " ") + length ys = length-append (xs ++ codes " ") ys in
+    let two : length (xs ++ codes " ") ≡ length xs + length (codes " ") = length-append xs (codes " ") in
     let space : length (codes " ") ≡ 1 = refl in
     omega (arith, one, two, space)
 
 words_len : (head kind from to : List ℕ) → length (head ++ codes " " ++ kind ++ codes " " ++ from ++ codes " " ++ to) ≡ length head + length kind + length from + length to + 3
 words_len head kind from to =
-    let one : length (head ++ codes " " ++ (kind ++ codes " " ++ from ++ codes " " ++ to)) ≡ length head + (1 + length (kind ++ codes " " ++ from ++ codes " " ++ to)) = behind head (kind ++ codes " " ++ from ++ codes " " ++ to) in
-    let two : length (kind ++ codes " " ++ (from ++ codes " " ++ to)) ≡ length kind + (1 + length (from ++ codes " " ++ to)) = behind kind (from ++ codes " " ++ to) in
-    let three : length (from ++ codes " " ++ to) ≡ length from + (1 + length to) = behind from to in
+    let one : length ((head ++ codes " ") ++ kind) ≡ length head + length kind + 1 = behind head kind in
+    let two : length ((((head ++ codes " ") ++ kind) ++ codes " ") ++ from) ≡ length ((head ++ codes " ") ++ kind) + length from + 1 = behind ((head ++ codes " ") ++ kind) from in
+    let three : length ((((((head ++ codes " ") ++ kind) ++ codes " ") ++ from) ++ codes " ") ++ to) ≡ length ((((head ++ codes " ") ++ kind) ++ codes " ") ++ from) + length to + 1 = behind ((((head ++ codes " ") ++ kind) ++ codes " ") ++ from) to in
     omega (arith, one, two, three)
 
 module _ (head : List ℕ) (places : List (List ℕ)) (first : ℕ) where

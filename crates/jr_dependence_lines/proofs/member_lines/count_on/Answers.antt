@@ -19,7 +19,7 @@ returns c =
     let w = c.in_ok-bytes.ensures in
     let lt : first < length places = let count = c.requires.texts.0 in let within = c.requires.first in omega (arith, count, within) in
     let stands : get_or places first [] ≡ c.index-texts-first.result = get_or_from_slice_get places first c.index-texts-first.result [] (slice_get_read places (length places) first c.index-texts-first.result refl lt c.index-texts-first.is) in
-    let place : length c.as_str-place.result.now ≡ length (get_or places first []) = ap length (c.as_str-place.ensures ∙ sym stands) in
+    let place : length c.as_str-place.result.now ≡ length (get_or places first []) = ap length (c.as_str-place.ensures ∙ sym c.index-texts-first.is ∙ sym stands) in
     let front : c.in-Some.each ≡ front_len head places first = let is = c.in-Some.ensures in omega (arith, is, place) in
     let weighs : sum_by (weight c.in-Some.each c.args.texts.now.lens.now) w.0 ≡ sum_by (weight (front_len head places first) (map length places)) w.0 = λ i. sum_by (weight (front i) (c.requires.texts.1 i)) w.0 in
     on_ok_weaker c.count.result (λ put. (w.0, w.1, put (all_told head places w.0) (w.2 ∙ weighs ∙ lines_len head places first w.0 (λ d at. ((w.1.exact d).0 at).0)))) c.count.ensures
