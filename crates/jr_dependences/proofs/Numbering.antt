@@ -1,5 +1,5 @@
 -- Keys that are one have one number, so sites by numbers are related as those by keys.
-use Rattle.std.proofs.Common.{◌≡◌, ◌⊎◌, ◌<◌, ◌≤◌, ◌+◌, ℕ, Bool, true, false, List, [], ◌∷◌, ◌++◌, length, Option, Some, None, refl, sym, ap, subst, ◌∙◌, inl, inr, arith}
+use Rattle.std.proofs.Common.{◌≡◌, ◌⊎◌, ◌<◌, ◌≤◌, ◌+◌, ℕ, Bool, false, List, length, Option, Some, None, refl, sym, ap, subst, ◌∙◌, inl, inr, arith}
 use Rattle.std.specs.Prelude.{◌↔◌, ◌&&◌, ◌||◌, ◌==◌, IsTrue, slice_get}
 use Rattle.std.specs.List.{AllZip}
 use Rattle.std.specs.Cmp.{IsEquivalence}
@@ -13,7 +13,7 @@ use Rattle.jr_sync.specs.declared.sites.DepKind.TheVariants.{Order, Field, Sync,
 use Rattle.jr_sync.specs.Grid.{is_allowed}
 use Rattle.jr_sync.specs.Sites.{is_wild, is_access, is_store, kind_of, field_of, read_of, written_of}
 use Rattle.jr_sync.specs.Relations.{Agree, is_ordered, Related}
-use Rattle.jr_dependences.specs.Numbers.{SameNumber, local_of, HasField, HasLocal, IsFirst, IsFieldNumber, IsNumbered, IsRowOf}
+use Rattle.jr_dependences.specs.Numbers.{SameNumber, local_of, IsFirst, IsFieldNumber, IsNumbered, IsRowOf}
 use Rattle.jr_dependences.proofs.Alike.{depends_alike, zip_count, zip_get}
 use Rattle.jr_dependences.proofs.Leading.{same_item}
 

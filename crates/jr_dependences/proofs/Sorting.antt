@@ -10,7 +10,6 @@ use Rattle.jr_sync.specs.declared.sites.DepKind.TheVariants.{Order, Field, Sync,
 use Rattle.jr_sync.specs.Sites.{is_access, is_wild, kind_of, field_of}
 use Rattle.jr_sync.specs.Relations.{Agree, is_ordered, Related}
 use Rattle.jr_flow.specs.declared.reached.Reached.{Reached}
-use Rattle.jr_dependences.specs.declared.pairs.Kinds.{Kinds}
 use Rattle.jr_dependences.specs.Kinds.{has, none, ordered}
 use Rattle.jr_dependences.specs.Known.{is_local, Gives}
 

@@ -9,7 +9,7 @@ use Rattle.jr_flow.specs.declared.reach.Reach.{Reach}
 use Rattle.jr_flow.specs.declared.reached.Reached.{Reached}
 use Rattle.jr_flow.specs.Edges.{EdgeOf}
 use Rattle.jr_flow.specs.Nodes.{IsReached, TellsNodes}
-use Rattle.jr_flow.specs.Pairs.{Comes, Tells}
+use Rattle.jr_flow.specs.Pairs.{Tells}
 use Rattle.jr_flow.specs.Paths.{Path, PathBetween}
 use Rattle.jr_dependences.specs.Depends.{WritesAgain}
 

@@ -2,7 +2,6 @@ use Rattle.std.proofs.Common.{◌≡◌, ◌<◌, ◌++◌, [], List, ℕ, lengt
 use Rattle.std.proofs.lemmas.List.{length-map, map-append}
 use Rattle.jr_sync.specs.declared.sites.Site.{Site}
 use Rattle.jr_sites.specs.declared.sites.PlacedSite.{PlacedSite}
-use Rattle.jr_dependences.specs.declared.dependence.Dependence.{Dependence}
 use Rattle.jr_dependences.specs.Depends.{DependsIn}
 use Rattle.jr_dependences.specs.Listed.{IsOn, IsListed}
 use Rattle.jr_dependences.specs.Numbers.{SameNumber}

@@ -1,4 +1,4 @@
-use Rattle.std.proofs.Common.{◌≡◌, refl, arith}
+use Rattle.std.proofs.Common.{refl, arith}
 use Rattle.jr_dependence_lines.proofs.Counting.{puts_past}
 use Rattle.jr_dependence_lines.proofs.tallies.count.Goals as goal
 

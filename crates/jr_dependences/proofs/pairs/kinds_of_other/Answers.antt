@@ -1,4 +1,4 @@
-use Rattle.std.proofs.Common.{false, true, Bool, ◌≡◌, ap, subst, sym, ◌∙◌}
+use Rattle.std.proofs.Common.{subst, sym, ◌∙◌}
 use Rattle.std.specs.Prelude.{IsTrue, ◌↔◌, ◌||◌}
 use Rattle.jr_sync.specs.declared.sites.DepKind.{DepKind}
 use Rattle.jr_sync.specs.Relations.{Related}

@@ -1,5 +1,4 @@
-use Rattle.std.proofs.Common.{◌<◌, ℕ, Some}
-use Rattle.std.specs.Prelude.{slice_get}
+use Rattle.std.proofs.Common.{ℕ}
 use Rattle.jr_sync.specs.declared.sites.Site.{Site}
 use Rattle.jr_sync.specs.declared.sites.DepKind.TheVariants.{Flow}
 use Rattle.jr_sync.specs.Relations.{Related}
