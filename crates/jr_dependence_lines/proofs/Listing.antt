@@ -16,6 +16,7 @@ use Rattle.jr_sites.specs.SiteView.{site_of, sites_in}
 use Rattle.jr_dependences.specs.declared.dependence.Dependence.{Dependence}
 use Rattle.jr_dependences.specs.Depends.{DependsIn}
 use Rattle.jr_dependences.specs.Listed.{IsOn, IsListed}
+use Rattle.jr_dependences.specs.Numbers.{SameNumber, IsRowOf}
 use Rattle.jr_dependences.proofs.Adding.{adds_none, adds_then, listed_alone}
 use Rattle.jr_dependences.proofs.Asking.{on_before, on_more}
 use Rattle.jr_effect.specs.Plain.{Same}
@@ -50,35 +51,32 @@ module _ (of : SiteGraph) where
       let n = site_count in
       omega (arith, lt, n)
 
-  second_within : (d : Dependence) → Holds d → d.second < length of.sites.items
-  second_within d h =
-      let lt = slice_get_within (sites_in of.sites.items) d.second h.1 h.3 in
-      let n = site_count in
-      omega (arith, lt, n)
-
-  pub all_within : (n : ℕ) → n ≡ length of.sites.items → (Q : Dependence → Type 0) (list : List Dependence) → IsListed Q Holds list → All (λ d. (d.first < n) × (d.second < n)) list
-  all_within n is Q list h k d lt =
-      let e = get_or list k d in
-      let holds : Holds e = ((h.exact e).0 (Contains-get_or list k d lt)).1 in
-      let a = first_within e holds in
-      let b = second_within e holds in
-      (omega (arith, is, a), omega (arith, is, b))
-
   pub all_listed : (n : ℕ) (list : List Dependence) → length of.sites.items ≤ n → Below Holds n list → AreAll of list
   all_listed n list le h = record {
     ordered = h.ordered;
     exact = λ d. (λ at. ((h.exact d).0 at).1, λ holds. let lt = first_within d holds in (h.exact d).1 (omega (arith, lt, le), holds));
   }
 
-  -- sites that are told apart by their keys
-  pub listed_keyed : (row : List (Site raw_field.FieldKey raw_local.LocalKey)) → row ≡ map (λ (s : raw.PlacedSite). s.site) of.sites.items → (Q : Dependence → Type 0) (list : List Dependence)
-      → IsListed Q (DependsIn (λ x y. IsTrue (same_field (field_key_of x) (field_key_of y))) (λ x y. IsTrue (same_local (local_key_of x) (local_key_of y))) row of.graph.edges.items) list → IsListed Q Holds list
-  listed_keyed row is Q list h = record {
+  -- sites that are told apart by their keys, by numbers
+  pub listed_numbered : (row : List (Site raw_field.FieldKey raw_local.LocalKey)) → row ≡ map (λ (s : raw.PlacedSite). s.site) of.sites.items → (numbers : List (Site ℕ ℕ))
+      → IsRowOf (λ x y. IsTrue (same_field (field_key_of x) (field_key_of y))) (λ x y. IsTrue (same_local (local_key_of x) (local_key_of y))) row numbers → (Q : Dependence → Type 0) (list : List Dependence)
+      → IsListed Q (DependsIn SameNumber SameNumber numbers of.graph.edges.items) list → IsListed Q Holds list
+  listed_numbered row is numbers alike Q list h = record {
     ordered = h.ordered;
-    exact = λ d. (λ at. let p = (h.exact d).0 at in (p.0, (both d).0 p.1), λ p. (h.exact d).1 (p.0, (both d).1 p.1));
+    exact = λ d. (λ at. let p = (h.exact d).0 at in (p.0, (keyed d).0 ((alike of.graph.edges.items d).0 p.1)), λ p. (h.exact d).1 (p.0, (alike of.graph.edges.items d).1 ((keyed d).1 p.1)));
   }
     where
-      both : (d : Dependence) → (DependsIn (λ x y. IsTrue (same_field (field_key_of x) (field_key_of y))) (λ x y. IsTrue (same_local (local_key_of x) (local_key_of y))) row of.graph.edges.items d ↔ Holds d)
-      both d =
+      keyed : (d : Dependence) → (DependsIn (λ x y. IsTrue (same_field (field_key_of x) (field_key_of y))) (λ x y. IsTrue (same_local (local_key_of x) (local_key_of y))) row of.graph.edges.items d ↔ Holds d)
+      keyed d =
           depends_keyed (λ x y. IsTrue (same_field (field_key_of x) (field_key_of y))) (λ x y. IsTrue (same_local (local_key_of x) (local_key_of y)))
           (λ x y. field_decides (field_key_of x) (field_key_of y)) (λ x y. local_decides (local_key_of x) (local_key_of y)) of.sites.items row is of.graph.edges.items d
+
+-- listed ones stand in their row
+pub numbers_within : (row : List (Site ℕ ℕ)) (edges : List (ℕ × ℕ)) (n : ℕ) → n ≡ length row → (Q : Dependence → Type 0) (list : List Dependence) → IsListed Q (DependsIn SameNumber SameNumber row edges) list
+    → All (λ d. (d.first < n) × (d.second < n)) list
+numbers_within row edges n is Q list h k d lt =
+    let e = get_or list k d in
+    let holds : DependsIn SameNumber SameNumber row edges e = ((h.exact e).0 (Contains-get_or list k d lt)).1 in
+    let a = slice_get_within row e.first holds.0 holds.2 in
+    let b = slice_get_within row e.second holds.1 holds.3 in
+    (omega (arith, is, a), omega (arith, is, b))

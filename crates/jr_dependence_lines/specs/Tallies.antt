@@ -10,6 +10,7 @@ use Rattle.std.specs.Prelude.{
   [],
   ◌++◌,
   map,
+  length,
   codes,
   decimal,
   slice_index_or,
@@ -31,7 +32,7 @@ use Rattle.jr_bind.specs.Bounds.{IsBound}
 use Rattle.jr_dependences.specs.declared.dependence.Dependence.{Dependence}
 use Rattle.jr_dependences.specs.Depends.{DependsIn}
 use Rattle.jr_dependences.specs.KindNames.{kind_name}
-use Rattle.jr_dependences.specs.Listed.{IsBefore}
+use Rattle.jr_dependences.specs.Listed.{IsBefore, IsListed, IsOn}
 use Rattle.jr_effect.specs.Plain.{Same}
 use Rattle.jr_sites.specs.declared.sites.PlacedSite as raw
 use Rattle.jr_sites.specs.declared.sites.SiteGraph.{SiteGraph}
@@ -41,6 +42,7 @@ use Rattle.jr_members.specs.WrittenMembers.{WrittenMember}
 use Rattle.jr_program_laws.specs.FileParts.{begins}
 use Rattle.jr_program.specs.declared.bounds.MemberBound.{MemberBound}
 use Rattle.jr_program.specs.Members.{IsMemberPlace}
+use Rattle.jr_dependence_lines.specs.declared.member_lines.Texts.{Texts}
 use Rattle.jr_dependence_lines.specs.declared.tallies.Tally.{Tally}
 use Rattle.jr_dependence_lines.specs.declared.tallies.Words.{Words}
 use Rattle.jr_dependence_lines.specs.declared.file_lines.Large.{Large}
@@ -84,6 +86,21 @@ all_told head places list = map (told head places) list
 -- of sites of a member that begins at a byte
 abbrev pub place_texts : (start : ℕ) → List raw.PlacedSite → List (List ℕ)
 place_texts start sites = map (λ (s : raw.PlacedSite). decimal (start + s.at)) sites
+
+-- how many bytes of a line stand before its second place, but for those of its kind
+abbrev pub front_len : (head : List ℕ) → (places : List (List ℕ)) → (first : ℕ) → ℕ
+front_len head places first = length head + length (slice_index_or places first []) + 3
+
+-- there are so many places, each with its number of bytes
+abbrev pub AreTextsOf : Texts → (count : ℕ) → Type 0
+AreTextsOf texts count = (length texts.places.now ≡ count)
+    × (texts.lens.now ≡ map length texts.places.now)
+
+-- the lines of the dependences on one site were put
+abbrev pub PutsOn : (head : List ℕ) → (places : List (List ℕ)) → (first : ℕ)
+    → (Holds : Dependence → Type 0) → (old new : Tally) → Type 0
+PutsOn head places first Holds old new = (list : List Dependence)
+    × IsListed (IsOn first) Holds list × Puts old new (all_told head places list)
 
 -- ---- of a member
 

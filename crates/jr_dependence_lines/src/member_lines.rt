@@ -1,23 +1,29 @@
 //! The lines of one member, by its graph.
-ghost use Rattle.std.specs.Prelude.{◌≡◌, ◌<◌, ◌+◌, ◌∷◌, [], List, All, length, decimal};
-ghost use Rattle.std.specs.Prelude.{IfOk, OnOk, string_bytes};
+ghost use Rattle.std.specs.Prelude.{◌≡◌, ◌<◌, ◌+◌, ◌^◌, ◌∷◌, [], List, All, length, map, decimal};
+ghost use Rattle.std.specs.Prelude.{IfOk, IfSome, OnOk, string_bytes};
+ghost use Rattle.jr_flow.specs.Edges.{EdgeOf};
+ghost use Rattle.jr_flow.specs.Pairs.{Tells};
+ghost use Rattle.jr_flow.specs.Paths.{Path};
 ghost use Rattle.jr_dependences.specs.declared.dependence.Dependence as pure;
-ghost use Rattle.jr_dependence_lines.specs.Tallies.{AreAll, Puts, PutsGraph, all_told};
-ghost use Rattle.jr_dependence_lines.specs.Tallies.{place_texts, told};
+ghost use Rattle.jr_dependences.specs.Depends.{DependsIn};
+ghost use Rattle.jr_dependences.specs.Numbers.{SameNumber};
+ghost use Rattle.jr_dependence_lines.specs.Tallies.{AreAll, Puts, PutsGraph, PutsOn, all_told};
+ghost use Rattle.jr_dependence_lines.specs.Tallies.{AreTextsOf, place_texts, told};
 
-use crate::tallies::{Tally, Words, put};
+use crate::tallies::{Tally, Words, count, put};
 use jr_ast::Name;
-use jr_dependences::{Dependence, dependences_on, kind_name};
+use jr_dependences::{Dependence, NumberedSite, dependences_on, kind_name, numbered, weight_on};
 use jr_effect::bare;
-use jr_flow::reachable;
+use jr_flow::{Graph, Reach, reachable};
 use jr_sites::{PlacedSite, SiteGraph};
 use std::alloc::{AllocError, Global};
 
-/// The text of a member, and the places of its sites as texts.
+/// The text of a member, the places of its sites as texts, and the bytes of each of these.
 #[derive(Clone, Copy, Drop)]
 pub(crate) struct Texts<'a> {
     pub head: &'a str,
     pub places: &'a [Name],
+    pub lens: &'a [u64],
 }
 
 fn place_string(alloc: Global, start: u32, site: &PlacedSite) -> Result<String, AllocError>
@@ -44,6 +50,17 @@ fn place_names(alloc: Global, start: u32, sites: &[PlacedSite]) -> Result<Vec<Na
         names.push(name)?;
     }
     Ok(names)
+}
+
+// How many bytes each of the texts has.
+fn lens_of(alloc: Global, texts: &[Name]) -> Result<Vec<u64>, AllocError>
+    ensures { IfOk result (λ lens. lens.items ≡ map length texts.now) }
+{
+    let mut lens = Vec::with_capacity(alloc, texts.len())?;
+    for text in texts {
+        lens.push(text.as_str().len() as u64)?;
+    }
+    Ok(lens)
 }
 
 // Puts the line of a dependence.
@@ -85,6 +102,64 @@ fn put_lines(
     Ok(())
 }
 
+// How many bytes a line has without the text of its kind and of its second place.
+fn front_len(head: &str, place: &str) -> Option<u64>
+    ensures { IfSome result (λ n. n ≡ length head.now + length place.now + 3) }
+{
+    let len = (head.len() as u64).checked_add(place.len() as u64)?;
+    len.checked_add(3)
+}
+
+// Counts the lines of the dependences on one site, and keeps none.
+fn count_on(
+    alloc: Global,
+    graph: &Graph,
+    reach: &Reach,
+    row: &[NumberedSite],
+    texts: &Texts<'_>,
+    first: u32,
+    tally: &mut Tally,
+) -> Result<(), AllocError>
+    requires few { length row.now < 2 ^ 32 }
+    requires first { first < length row.now }
+    requires reach { Tells (Path (EdgeOf graph.now.edges.items)) reach.now }
+    requires texts { AreTextsOf texts.now (length row.now) }
+    requires past { tally.old.most < tally.old.len }
+    ensures { OnOk result (PutsOn texts.now.head.now texts.now.places.now first
+        (DependsIn SameNumber SameNumber row.now graph.now.edges.items) tally.old tally.new) }
+{
+    let place = texts.places[first as usize].as_str();
+    let Some(each) = front_len(texts.head, place) else {
+        return Err(AllocError);
+    };
+    let bytes = weight_on(alloc, graph, reach, row, first, each, texts.lens)?;
+    count(tally, bytes)
+}
+
+// Puts the lines of the dependences on one site.
+fn put_on(
+    alloc: Global,
+    graph: &Graph,
+    reach: &Reach,
+    row: &[NumberedSite],
+    texts: &Texts<'_>,
+    first: u32,
+    tally: &mut Tally,
+) -> Result<(), AllocError>
+    requires few { length row.now < 2 ^ 32 }
+    requires first { first < length row.now }
+    requires reach { Tells (Path (EdgeOf graph.now.edges.items)) reach.now }
+    requires texts { AreTextsOf texts.now (length row.now) }
+    ensures { OnOk result (PutsOn texts.now.head.now texts.now.places.now first
+        (DependsIn SameNumber SameNumber row.now graph.now.edges.items) tally.old tally.new) }
+{
+    if tally.len > tally.most {
+        return count_on(alloc, graph, reach, row, texts, first, tally);
+    }
+    let list = dependences_on(alloc, graph, reach, row, first)?;
+    put_lines(alloc, texts, &list, tally)
+}
+
 /// Puts the lines of the dependences between the sites of a graph, in order: by the first site, the
 /// second and the kind.
 pub(crate) fn put_dependences(
@@ -93,15 +168,15 @@ pub(crate) fn put_dependences(
     texts: &Texts<'_>,
     tally: &mut Tally,
 ) -> Result<(), AllocError>
-    requires { length texts.now.places.now ≡ length of.now.sites.items }
+    requires { AreTextsOf texts.now (length of.now.sites.items) }
     ensures { OnOk result ((list : List pure.Dependence) × AreAll of.now list
         × Puts tally.old tally.new (all_told texts.now.head.now texts.now.places.now list)) }
 {
-    let row = bare(alloc, of.graph.size, &of.sites)?;
+    let sites = bare(alloc, of.graph.size, &of.sites)?;
+    let row = numbered(alloc, &sites)?;
     let reach = reachable(alloc, &of.graph)?;
     for first in 0..row.len() {
-        let list = dependences_on(alloc, &of.graph, &reach, &row, first as u32)?;
-        put_lines(alloc, texts, &list, tally)?;
+        put_on(alloc, &of.graph, &reach, &row, texts, first as u32, tally)?;
     }
     Ok(())
 }
@@ -117,9 +192,12 @@ pub(crate) fn put_graph(
     ensures { OnOk result (PutsGraph head.now start of.now tally.old tally.new) }
 {
     let names = place_names(alloc, start, &of.sites)?;
+    let places = names.as_slice();
+    let lens = lens_of(alloc, places)?;
     let texts = Texts {
         head,
-        places: names.as_slice(),
+        places,
+        lens: lens.as_slice(),
     };
     put_dependences(alloc, of, &texts, tally)
 }

@@ -1,5 +1,6 @@
 //! Lines are counted before they are kept.
-ghost use Rattle.std.specs.Prelude.{◌≡◌, ◌∷◌, ◌++◌, [], ◌+◌, length};
+ghost use Rattle.std.specs.Prelude.{◌≡◌, ◌<◌, ◌∷◌, ◌++◌, [], ◌+◌, ℕ, List, length};
+ghost use Rattle.jr_lines.specs.Lines.{bytes_of};
 ghost use Rattle.std.specs.Prelude.{IfOk, IfSome, OnOk, string_bytes};
 ghost use Rattle.jr_dependence_lines.specs.Tallies.{Puts, Tallies, text_of};
 
@@ -85,4 +86,20 @@ pub(crate) fn put(alloc: Global, tally: &mut Tally, words: &Words<'_>) -> Result
     }
     tally.len = len;
     Ok(())
+}
+
+/// Counts lines that have so many bytes together, where there are too many already. Where 64 bits
+/// don't count them the answer is want of memory.
+pub(crate) fn count(tally: &mut Tally, bytes: u64) -> Result<(), AllocError>
+    requires { tally.old.most < tally.old.len }
+    ensures { OnOk result ((texts : List (List ℕ)) → bytes ≡ bytes_of texts
+        → Puts tally.old tally.new texts) }
+{
+    match tally.len.checked_add(bytes) {
+        None => Err(AllocError),
+        Some(len) => {
+            tally.len = len;
+            Ok(())
+        }
+    }
 }

@@ -2,7 +2,8 @@
 -- dependences are in question in each step. `Leading`: whether one site depends on another, by what
 -- is known of paths. `Stopping`: paths between the same stops, and the stops as they are gathered.
 -- `Pointing`: sites in a row of references. `Sorting`: which there can't be between two sites.
--- `Mapped`: sites that are seen in another way.
+-- `Telling`: what is listed of two sites, and what it weighs. `Mapped`: sites that are seen in
+-- another way. `Alike`: rows of sites that are related alike. `Numbering`: sites by numbers are.
 pub mod Adding
 pub mod Asking
 pub mod Leading
@@ -10,3 +11,6 @@ pub mod Mapped
 pub mod Pointing
 pub mod Sorting
 pub mod Stopping
+pub mod Telling
+pub mod Alike
+pub mod Numbering

@@ -1,18 +1,17 @@
 -- Paths between the same stops, and the stops as they are gathered.
-use Rattle.std.proofs.Common.{◌≡◌, ◌⊎◌, ◌<◌, ℕ, ◌+◌, false, List, [], ◌∷◌, ◌++◌, Option, Some, None, refl, sym, ap, subst, ◌∙◌, inl, inr, arith}
-use Rattle.std.specs.Prelude.{Contains, ◌↔◌, slice_get, is_some}
-use Rattle.std.proofs.lemmas.Bool.{cases_eq, false≢true}
+use Rattle.std.proofs.Common.{◌≡◌, ◌⊎◌, ◌<◌, ℕ, ◌+◌, List, [], ◌∷◌, ◌++◌, Some, None, sym, subst, ◌∙◌, inl, inr, arith}
+use Rattle.std.specs.Prelude.{Contains, ◌↔◌, slice_get}
+use Rattle.std.proofs.lemmas.Bool.{cases_eq}
 use Rattle.std.proofs.lemmas.List.Elements.{Contains-append_left, Contains-push, Contains-push_cases}
 use Rattle.jr_flow.specs.Paths.{PathBetween, edge, onward}
 use Rattle.jr_sync.specs.declared.sites.Site.{Site}
 use Rattle.jr_sync.specs.declared.sites.DepKind.TheVariants.{Output}
-use Rattle.jr_sync.specs.Sites.{written_of}
 use Rattle.jr_sync.specs.Relations.{Related}
 use Rattle.jr_flow.specs.declared.reached.Reached.{Reached}
 use Rattle.jr_flow.specs.Edges.{EdgeOf}
 use Rattle.jr_flow.specs.Nodes.{TellsNodes}
 use Rattle.jr_dependences.specs.Depends.{WritesAgain}
-use Rattle.jr_dependences.specs.Known.{TellsFlow}
+use Rattle.jr_dependences.specs.Known.{IsReadIn, TellsFlow}
 use Rattle.jr_dependences.proofs.Leading.{same_item}
 
 pub between_same : (E : ℕ → ℕ → Type 0) (S T : ℕ → Type 0) → ((n : ℕ) → (S n ↔ T n)) → (a b : ℕ) → PathBetween E S a b → PathBetween E T a b
@@ -56,10 +55,6 @@ gathers_all P count stops within h n = (λ at. ((h n).0 at).1, λ p. (h n).1 (wi
 pub gathers_same : (P : ℕ → Type 0) (count : ℕ) (stops others : List ℕ) → others ≡ stops → Gathers P count stops → Gathers P count others
 gathers_same P count stops others same h = subst (λ (ns : List ℕ). Gathers P count ns) (sym same) h
 
-no_item : {X : Type 0} (o : Option X) → is_some o ≡ false → o ≡ None
-no_item None e = refl
-no_item (Some x) e = absurd (false≢true (sym e))
-
 module _ {K L : Type 0} (F : K → K → Type 0) (M : L → L → Type 0) (sites : List (Site K L)) where
   pub stop_past : (a s : Site K L) (count : ℕ) (stops : List ℕ) → slice_get sites count ≡ Some s → (Related F M Output a s → ⊥) → Gathers (WritesAgain F M sites a) count stops
       → Gathers (WritesAgain F M sites a) (count + 1) stops
@@ -69,9 +64,13 @@ module _ {K L : Type 0} (F : K → K → Type 0) (M : L → L → Type 0) (sites
       → Gathers (WritesAgain F M sites a) (count + 1) (stops ++ count ∷ [])
   stop_more a s count stops is again h = gathers_more (WritesAgain F M sites a) count stops (s, is, again) h
 
+  -- the same stops
+  pub stops_as : (a : Site K L) (ns ms : List ℕ) → ns ≡ ms → ((n : ℕ) → (Contains ns n ↔ WritesAgain F M sites a n)) → (n : ℕ) → (Contains ms n ↔ WritesAgain F M sites a n)
+  stops_as a ns ms is h = subst (λ (l : List ℕ). (n : ℕ) → (Contains l n ↔ WritesAgain F M sites a n)) is h
+
   module _ (edges : List (ℕ × ℕ)) (first : ℕ) (site : Site K L) (is : slice_get sites first ≡ Some site) where
-    pub flow_none : is_some (written_of site) ≡ false → TellsFlow F M sites edges first None
-    flow_none none a at = ap written_of (same_item a site (sym at ∙ is)) ∙ no_item (written_of site) none
+    pub flow_none : (IsReadIn F M sites site → ⊥) → TellsFlow F M sites edges first None
+    flow_none unread a at read = unread (subst (IsReadIn F M sites) (same_item a site (sym at ∙ is)) read)
 
     pub flow_some : (stops : List ℕ) (reached : Reached) → ((n : ℕ) → (Contains stops n ↔ WritesAgain F M sites site n)) → TellsNodes (PathBetween (EdgeOf edges) (Contains stops) first) reached
         → TellsFlow F M sites edges first (Some reached)

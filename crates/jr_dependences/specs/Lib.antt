@@ -2,3 +2,6 @@ pub mod Depends
 pub mod Known
 pub mod Listed
 pub mod KindNames
+pub mod Numbers
+pub mod Kinds
+pub mod Weights

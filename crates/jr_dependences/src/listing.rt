@@ -1,48 +1,88 @@
 //! Dependences are listed, a first site after another.
-ghost use Rattle.std.specs.Prelude.{ℕ, List, ◌↔◌, ◌<◌, ◌^◌, IfOk, OnOk, IsTrue};
+ghost use Rattle.std.specs.Prelude.{◌≡◌, ℕ, List, ◌↔◌, ◌++◌, ◌<◌, ◌^◌, IfOk, OnOk, IsTrue};
 ghost use Rattle.std.specs.Prelude.{Contains, AllPairs, length, map};
 ghost use Rattle.jr_flow.specs.Edges.{EdgeOf};
 ghost use Rattle.jr_flow.specs.Paths.{Path};
 ghost use Rattle.jr_flow.specs.Pairs.{Tells};
 ghost use Rattle.jr_dependences.specs.Depends.{DependsIn};
+ghost use Rattle.jr_dependences.specs.Kinds.{told, told_one};
 ghost use Rattle.jr_dependences.specs.Known.{KnowsPaths};
 ghost use Rattle.jr_dependences.specs.Listed.{IsBefore, IsListed, IsOn, Adds};
+ghost use Rattle.jr_dependences.specs.Numbers.{SameNumber};
 
 use crate::Dependence;
-use crate::pairs::push_pair;
+use crate::numbers::{NumberedSite, numbered};
+use crate::pairs::{Kinds, kinds_between};
 use crate::stops::flow_of;
 use jr_flow::{Graph, Reach, Reached, reachable};
-use jr_sync::Site;
+use jr_sync::{DepKind, Site};
 use std::alloc::{AllocError, Global};
 
+/// Puts a dependence, if it holds.
+fn push_kind(
+    holds: bool,
+    kind: DepKind,
+    first: u32,
+    second: u32,
+    list: &mut Vec<Dependence>,
+) -> Result<(), AllocError>
+    ensures { OnOk result (list.new.items ≡ list.old.items ++ told_one holds kind first second) }
+{
+    if !holds {
+        return Ok(());
+    }
+    list.push(Dependence {
+        kind,
+        first,
+        second,
+    })?;
+    Ok(())
+}
+
+/// Puts the dependences of one site on another, in the order of kinds.
+fn push_kinds(
+    kinds: Kinds,
+    first: u32,
+    second: u32,
+    list: &mut Vec<Dependence>,
+) -> Result<(), AllocError>
+    ensures { OnOk result (list.new.items ≡ list.old.items ++ told kinds first second) }
+{
+    push_kind(kinds.order, DepKind::Order, first, second, list)?;
+    push_kind(kinds.field, DepKind::Field, first, second, list)?;
+    push_kind(kinds.sync, DepKind::Sync, first, second, list)?;
+    push_kind(kinds.flow, DepKind::Flow, first, second, list)?;
+    push_kind(kinds.anti, DepKind::Anti, first, second, list)?;
+    push_kind(kinds.output, DepKind::Output, first, second, list)
+}
+
 /// Puts the dependences on one site, from which these paths are known.
-fn push_seconds<K: Eq, L: Eq>(
+fn push_seconds(
     reach: &Reach,
     flow: &Option<Reached>,
-    sites: &[&Site<K, L>],
+    sites: &[NumberedSite],
     first: u32,
     list: &mut Vec<Dependence>,
 ) -> Result<(), AllocError>
     requires few { length sites.now < 2 ^ 32 }
     requires first { first < length sites.now }
-    ensures { (edges : List (ℕ × ℕ)) → KnowsPaths (λ x y. IsTrue (K.eq x y))
-        (λ x y. IsTrue (L.eq x y)) (map (λ s. s.now) sites.now) edges first reach.now flow.now
-        → OnOk result (Adds (IsOn first)
-        (DependsIn (λ x y. IsTrue (K.eq x y)) (λ x y. IsTrue (L.eq x y))
-        (map (λ s. s.now) sites.now) edges) list.old.items list.new.items) }
+    ensures { (edges : List (ℕ × ℕ)) → KnowsPaths SameNumber SameNumber sites.now edges first
+        reach.now flow.now → OnOk result (Adds (IsOn first)
+        (DependsIn SameNumber SameNumber sites.now edges) list.old.items list.new.items) }
 {
     for second in 0..sites.len() {
-        push_pair(reach, flow, sites, first, second as u32, list)?;
+        let kinds = kinds_between(reach, flow, sites, first, second as u32);
+        push_kinds(kinds, first, second as u32, list)?;
     }
     Ok(())
 }
 
 /// Puts the dependences on one site.
-fn push_row<K: Eq, L: Eq>(
+fn push_row(
     alloc: Global,
     graph: &Graph,
     reach: &Reach,
-    sites: &[&Site<K, L>],
+    sites: &[NumberedSite],
     first: u32,
     list: &mut Vec<Dependence>,
 ) -> Result<(), AllocError>
@@ -50,8 +90,8 @@ fn push_row<K: Eq, L: Eq>(
     requires first { first < length sites.now }
     requires reach { Tells (Path (EdgeOf graph.now.edges.items)) reach.now }
     ensures { OnOk result (Adds (IsOn first)
-        (DependsIn (λ x y. IsTrue (K.eq x y)) (λ x y. IsTrue (L.eq x y))
-        (map (λ s. s.now) sites.now) graph.now.edges.items) list.old.items list.new.items) }
+        (DependsIn SameNumber SameNumber sites.now graph.now.edges.items)
+        list.old.items list.new.items) }
 {
     let flow = flow_of(alloc, graph, sites, first)?;
     push_seconds(reach, &flow, sites, first, list)
@@ -59,22 +99,40 @@ fn push_row<K: Eq, L: Eq>(
 
 /// The dependences on one site, each once, in order: by the second site and the kind. The sites are
 /// the graph's nodes; `reach` has between which of them there are paths.
-pub fn dependences_on<K: Eq, L: Eq>(
+pub fn dependences_on(
     alloc: Global,
     graph: &Graph,
     reach: &Reach,
-    sites: &[&Site<K, L>],
+    sites: &[NumberedSite],
     first: u32,
 ) -> Result<Vec<Dependence>, AllocError>
     requires few { length sites.now < 2 ^ 32 }
     requires first { first < length sites.now }
     requires reach { Tells (Path (EdgeOf graph.now.edges.items)) reach.now }
     ensures { IfOk result (λ list. IsListed (IsOn first)
-        (DependsIn (λ x y. IsTrue (K.eq x y)) (λ x y. IsTrue (L.eq x y))
-        (map (λ s. s.now) sites.now) graph.now.edges.items) list.items) }
+        (DependsIn SameNumber SameNumber sites.now graph.now.edges.items) list.items) }
 {
     let mut list = Vec::new(alloc);
     push_row(alloc, graph, reach, sites, first, &mut list)?;
+    Ok(list)
+}
+
+/// The dependences on all sites, one site after another.
+fn dependences_between(
+    alloc: Global,
+    graph: &Graph,
+    sites: &[NumberedSite],
+) -> Result<Vec<Dependence>, AllocError>
+    requires { length sites.now < 2 ^ 32 }
+    ensures ordered { IfOk result (λ list. AllPairs IsBefore list.items) }
+    ensures exact { IfOk result (λ list. (d : Dependence) → (Contains list.items d
+        ↔ DependsIn SameNumber SameNumber sites.now graph.now.edges.items d)) }
+{
+    let reach = reachable(alloc, graph)?;
+    let mut list = Vec::new(alloc);
+    for first in 0..sites.len() {
+        push_row(alloc, graph, &reach, sites, first as u32, &mut list)?;
+    }
     Ok(list)
 }
 
@@ -91,10 +149,6 @@ pub fn dependences_of<K: Eq, L: Eq>(
         ↔ DependsIn (λ x y. IsTrue (K.eq x y)) (λ x y. IsTrue (L.eq x y))
         (map (λ s. s.now) sites.now) graph.now.edges.items d)) }
 {
-    let reach = reachable(alloc, graph)?;
-    let mut list = Vec::new(alloc);
-    for first in 0..sites.len() {
-        push_row(alloc, graph, &reach, sites, first as u32, &mut list)?;
-    }
-    Ok(list)
+    let row = numbered(alloc, sites)?;
+    dependences_between(alloc, graph, row.as_slice())
 }

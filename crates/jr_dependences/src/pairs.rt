@@ -1,83 +1,60 @@
-//! How one site depends on another.
-ghost use Rattle.std.specs.Prelude.{◌≡◌, ℕ, ◌↔◌, ◌<◌, List, true, false, OnOk, IsTrue};
-ghost use Rattle.std.specs.Prelude.{length, map};
-ghost use Rattle.jr_dependences.specs.Depends.{DependsIn};
-ghost use Rattle.jr_dependences.specs.Known.{Leads, KnowsPaths, is_local, IsOfLocal};
-ghost use Rattle.jr_dependences.specs.Listed.{IsBetween, IsOf, Adds};
+//! In which ways one site depends on another.
+ghost use Rattle.std.specs.Prelude.{◌≡◌, ℕ, ◌↔◌, ◌<◌, List, true, false, IsTrue, length};
+ghost use Rattle.jr_sync.specs.Relations.{Related};
+ghost use Rattle.jr_dependences.specs.Depends.{Depends};
+ghost use Rattle.jr_dependences.specs.Known.{Gives, KnowsPaths, is_local};
+ghost use Rattle.jr_sync.specs.Sites.{is_wild};
+ghost use Rattle.jr_dependences.specs.Kinds.{has, none, ordered};
+ghost use Rattle.jr_dependences.specs.Numbers.{SameNumber};
 
-use crate::Dependence;
+use crate::numbers::NumberedSite;
 use jr_flow::{Reach, Reached};
 use jr_sync::{DepKind, Site, related};
-use std::alloc::AllocError;
 
-/// Whether a path leads from the one site to the other, for a dependence of the kind. `flow` has
-/// what the first reaches with no write of its local between, if it is a write.
-fn leads(reach: &Reach, flow: &Option<Reached>, kind: DepKind, first: u32, second: u32) -> bool
-    ensures { IsTrue result ↔ Leads reach.now flow.now kind first second }
+/// In which ways a site depends on another.
+#[derive(Clone, Copy)]
+pub(crate) struct Kinds {
+    pub order: bool,
+    pub field: bool,
+    pub sync: bool,
+    pub flow: bool,
+    pub anti: bool,
+    pub output: bool,
+}
+
+/// It doesn't.
+#[inline(always)]
+fn in_no_way() -> Kinds
+    ensures { result ≡ none }
 {
-    match kind {
-        DepKind::Flow => match flow {
-            None => false,
-            Some(reached) => reached.has(second),
-        },
-        DepKind::Order | DepKind::Field | DepKind::Sync | DepKind::Anti | DepKind::Output => {
-            reach.comes(first, second)
-        }
+    Kinds {
+        order: false,
+        field: false,
+        sync: false,
+        flow: false,
+        anti: false,
+        output: false,
     }
 }
 
-/// Whether a site depends on another in this way.
-fn depends<K: Eq, L: Eq>(
-    reach: &Reach,
-    flow: &Option<Reached>,
-    sites: &[&Site<K, L>],
-    kind: DepKind,
-    first: u32,
-    second: u32,
-) -> bool
-    requires first { first < length sites.now }
-    requires second { second < length sites.now }
-    ensures { (edges : List (ℕ × ℕ)) → KnowsPaths (λ x y. IsTrue (K.eq x y))
-        (λ x y. IsTrue (L.eq x y)) (map (λ s. s.now) sites.now) edges first reach.now flow.now
-        → (IsTrue result ↔ DependsIn (λ x y. IsTrue (K.eq x y)) (λ x y. IsTrue (L.eq x y))
-        (map (λ s. s.now) sites.now) edges
-        (record { kind = kind; first = first; second = second })) }
+/// One may throw, call or loop, and the other too, or it is an access.
+#[inline(always)]
+fn in_order() -> Kinds
+    ensures { result ≡ ordered }
 {
-    let leads_there = leads(reach, flow, kind, first, second);
-    leads_there & related(kind, sites[first as usize], sites[second as usize])
-}
-
-/// Puts a dependence, if the second site depends on the first in this way.
-fn push_kind<K: Eq, L: Eq>(
-    reach: &Reach,
-    flow: &Option<Reached>,
-    sites: &[&Site<K, L>],
-    kind: DepKind,
-    first: u32,
-    second: u32,
-    list: &mut Vec<Dependence>,
-) -> Result<(), AllocError>
-    requires first { first < length sites.now }
-    requires second { second < length sites.now }
-    ensures { (edges : List (ℕ × ℕ)) → KnowsPaths (λ x y. IsTrue (K.eq x y))
-        (λ x y. IsTrue (L.eq x y)) (map (λ s. s.now) sites.now) edges first reach.now flow.now
-        → OnOk result (Adds (IsOf kind first second)
-        (DependsIn (λ x y. IsTrue (K.eq x y)) (λ x y. IsTrue (L.eq x y))
-        (map (λ s. s.now) sites.now) edges) list.old.items list.new.items) }
-{
-    if !depends(reach, flow, sites, kind, first, second) {
-        return Ok(());
+    Kinds {
+        order: true,
+        field: false,
+        sync: false,
+        flow: false,
+        anti: false,
+        output: false,
     }
-    list.push(Dependence {
-        kind,
-        first,
-        second,
-    })?;
-    Ok(())
 }
 
 /// Whether the site is of a local.
-fn is_local<K, L>(site: &Site<K, L>) -> bool
+#[inline(always)]
+fn is_local(site: &NumberedSite) -> bool
     ensures { result ≡ is_local site.now }
 {
     match site {
@@ -86,76 +63,98 @@ fn is_local<K, L>(site: &Site<K, L>) -> bool
     }
 }
 
-/// Puts the dependences on a site of a local: others than of locals there are none.
-fn push_of_local<K: Eq, L: Eq>(
-    reach: &Reach,
-    flow: &Option<Reached>,
-    sites: &[&Site<K, L>],
-    first: u32,
-    second: u32,
-    list: &mut Vec<Dependence>,
-) -> Result<(), AllocError>
-    requires first { first < length sites.now }
-    requires second { second < length sites.now }
-    requires site { IsOfLocal (map (λ s. s.now) sites.now) first true }
-    ensures { (edges : List (ℕ × ℕ)) → KnowsPaths (λ x y. IsTrue (K.eq x y))
-        (λ x y. IsTrue (L.eq x y)) (map (λ s. s.now) sites.now) edges first reach.now flow.now
-        → OnOk result (Adds (IsBetween first second)
-        (DependsIn (λ x y. IsTrue (K.eq x y)) (λ x y. IsTrue (L.eq x y))
-        (map (λ s. s.now) sites.now) edges) list.old.items list.new.items) }
+/// Whether the site is a test, a call or a loop.
+#[inline(always)]
+fn is_wild(site: &NumberedSite) -> bool
+    ensures { result ≡ is_wild site.now }
 {
-    push_kind(reach, flow, sites, DepKind::Flow, first, second, list)?;
-    push_kind(reach, flow, sites, DepKind::Anti, first, second, list)?;
-    push_kind(reach, flow, sites, DepKind::Output, first, second, list)
-}
-
-/// Puts the dependences on another site: of locals there are none.
-fn push_of_other<K: Eq, L: Eq>(
-    reach: &Reach,
-    flow: &Option<Reached>,
-    sites: &[&Site<K, L>],
-    first: u32,
-    second: u32,
-    list: &mut Vec<Dependence>,
-) -> Result<(), AllocError>
-    requires first { first < length sites.now }
-    requires second { second < length sites.now }
-    requires site { IsOfLocal (map (λ s. s.now) sites.now) first false }
-    ensures { (edges : List (ℕ × ℕ)) → KnowsPaths (λ x y. IsTrue (K.eq x y))
-        (λ x y. IsTrue (L.eq x y)) (map (λ s. s.now) sites.now) edges first reach.now flow.now
-        → OnOk result (Adds (IsBetween first second)
-        (DependsIn (λ x y. IsTrue (K.eq x y)) (λ x y. IsTrue (L.eq x y))
-        (map (λ s. s.now) sites.now) edges) list.old.items list.new.items) }
-{
-    push_kind(reach, flow, sites, DepKind::Order, first, second, list)?;
-    push_kind(reach, flow, sites, DepKind::Field, first, second, list)?;
-    push_kind(reach, flow, sites, DepKind::Sync, first, second, list)
-}
-
-/// Puts the dependences of one site on another, in the order of kinds. Where no path leads from the
-/// one to the other there are none.
-pub(crate) fn push_pair<K: Eq, L: Eq>(
-    reach: &Reach,
-    flow: &Option<Reached>,
-    sites: &[&Site<K, L>],
-    first: u32,
-    second: u32,
-    list: &mut Vec<Dependence>,
-) -> Result<(), AllocError>
-    requires first { first < length sites.now }
-    requires second { second < length sites.now }
-    ensures { (edges : List (ℕ × ℕ)) → KnowsPaths (λ x y. IsTrue (K.eq x y))
-        (λ x y. IsTrue (L.eq x y)) (map (λ s. s.now) sites.now) edges first reach.now flow.now
-        → OnOk result (Adds (IsBetween first second)
-        (DependsIn (λ x y. IsTrue (K.eq x y)) (λ x y. IsTrue (L.eq x y))
-        (map (λ s. s.now) sites.now) edges) list.old.items list.new.items) }
-{
-    if !Reach::comes(reach, first, second) {
-        return Ok(());
+    match site {
+        Site::Check | Site::Call | Site::Loop => true,
+        Site::Read(_) | Site::Write(_) | Site::Access(_, _) => false,
     }
-    if is_local(sites[first as usize]) {
-        push_of_local(reach, flow, sites, first, second, list)
+}
+
+/// Whether what a write gives comes to a site. `flow` has what the write reaches with no write of
+/// its local between, if anything reads the local.
+fn gives(flow: &Option<Reached>, second: u32) -> bool
+    ensures { IsTrue result ↔ Gives flow.now DepKind.Flow second }
+{
+    match flow {
+        None => false,
+        Some(reached) => reached.has(second),
+    }
+}
+
+/// How a site depends on one of a local before it: others than of locals there are none.
+fn kinds_of_local(
+    flow: &Option<Reached>,
+    before: &NumberedSite,
+    behind: &NumberedSite,
+    second: u32,
+) -> Kinds
+    requires { is_local before.now ≡ true }
+    ensures { (kind : DepKind) → (IsTrue (has result kind) ↔ (Gives flow.now kind second
+        × Related SameNumber SameNumber kind before.now behind.now)) }
+{
+    Kinds {
+        order: false,
+        field: false,
+        sync: false,
+        flow: gives(flow, second) & related(DepKind::Flow, before, behind),
+        anti: related(DepKind::Anti, before, behind),
+        output: related(DepKind::Output, before, behind),
+    }
+}
+
+/// How a site depends on another before it: of locals there are none. Cheap tests come first: most
+/// sites stand beside one that is no access.
+#[inline(always)]
+fn kinds_of_other(before: &NumberedSite, behind: &NumberedSite) -> Kinds
+    requires { is_local before.now ≡ false }
+    ensures { (kind : DepKind) → (IsTrue (has result kind)
+        ↔ Related SameNumber SameNumber kind before.now behind.now) }
+{
+    if is_local(behind) {
+        return in_no_way();
+    }
+    let is_ordered = is_wild(behind) | is_wild(before);
+    if is_ordered {
+        return in_order();
+    }
+    Kinds {
+        order: false,
+        field: related(DepKind::Field, before, behind),
+        sync: related(DepKind::Sync, before, behind),
+        flow: false,
+        anti: false,
+        output: false,
+    }
+}
+
+/// How the second site depends on the first. Where no path leads from the one to the other it
+/// doesn't.
+#[inline(always)]
+pub(crate) fn kinds_between(
+    reach: &Reach,
+    flow: &Option<Reached>,
+    sites: &[NumberedSite],
+    first: u32,
+    second: u32,
+) -> Kinds
+    requires first { first < length sites.now }
+    requires second { second < length sites.now }
+    ensures { (edges : List (ℕ × ℕ)) → KnowsPaths SameNumber SameNumber sites.now edges first
+        reach.now flow.now → (kind : DepKind) → (IsTrue (has result kind)
+        ↔ Depends SameNumber SameNumber sites.now edges kind first second) }
+{
+    if !reach.comes(first, second) {
+        return in_no_way();
+    }
+    let before = &sites[first as usize];
+    let behind = &sites[second as usize];
+    if is_local(before) {
+        kinds_of_local(flow, before, behind, second)
     } else {
-        push_of_other(reach, flow, sites, first, second, list)
+        kinds_of_other(before, behind)
     }
 }

@@ -1,46 +1,59 @@
 //! Where a local is written again, and what a write reaches before that.
-ghost use Rattle.std.specs.Prelude.{ℕ, ◌↔◌, ◌<◌, ◌^◌, IfOk, IsTrue, Contains, length, map};
+ghost use Rattle.std.specs.Prelude.{ℕ, ◌↔◌, ◌<◌, ◌^◌, IfOk, IsTrue, Contains, length};
 ghost use Rattle.jr_dependences.specs.Depends.{WritesAgain};
-ghost use Rattle.jr_dependences.specs.Known.{TellsFlow};
+ghost use Rattle.jr_dependences.specs.Known.{IsReadIn, TellsFlow};
+ghost use Rattle.jr_dependences.specs.Numbers.{SameNumber};
 
+use crate::numbers::NumberedSite;
 use jr_flow::{Graph, Reached, reached_from};
-use jr_sync::{DepKind, Site, is_write, related};
+use jr_sync::{DepKind, related};
 use std::alloc::{AllocError, Global};
 
+/// Whether one of the sites reads the local that a site writes.
+fn is_read_in(sites: &[NumberedSite], site: &NumberedSite) -> bool
+    ensures { IsTrue result ↔ IsReadIn SameNumber SameNumber sites.now site.now }
+{
+    for other in sites {
+        if related(DepKind::Flow, site, other) {
+            return true;
+        }
+    }
+    false
+}
+
 /// The numbers of the sites that write the local that a site writes.
-fn stops_of<K: Eq, L: Eq>(
+fn stops_of(
     alloc: Global,
-    sites: &[&Site<K, L>],
-    site: &Site<K, L>,
+    sites: &[NumberedSite],
+    site: &NumberedSite,
 ) -> Result<Vec<u32>, AllocError>
     requires { length sites.now < 2 ^ 32 }
     ensures { IfOk result (λ stops. (n : ℕ) → (Contains stops.items n
-        ↔ WritesAgain (λ x y. IsTrue (K.eq x y)) (λ x y. IsTrue (L.eq x y))
-        (map (λ s. s.now) sites.now) site.now n)) }
+        ↔ WritesAgain SameNumber SameNumber sites.now site.now n)) }
 {
     let mut stops = Vec::new(alloc);
     for n in 0..sites.len() {
-        if related(DepKind::Output, site, sites[n]) {
+        if related(DepKind::Output, site, &sites[n]) {
             stops.push(n as u32)?;
         }
     }
     Ok(stops)
 }
 
-/// What a site reaches with no write of its local between, if it is a write.
-pub(crate) fn flow_of<K: Eq, L: Eq>(
+/// What a site reaches with no write of its local between, if it is a write of a local that is
+/// read.
+pub(crate) fn flow_of(
     alloc: Global,
     graph: &Graph,
-    sites: &[&Site<K, L>],
+    sites: &[NumberedSite],
     first: u32,
 ) -> Result<Option<Reached>, AllocError>
     requires few { length sites.now < 2 ^ 32 }
     requires first { first < length sites.now }
-    ensures { IfOk result (TellsFlow (λ x y. IsTrue (K.eq x y)) (λ x y. IsTrue (L.eq x y))
-        (map (λ s. s.now) sites.now) graph.now.edges.items first) }
+    ensures { IfOk result (TellsFlow SameNumber SameNumber sites.now graph.now.edges.items first) }
 {
-    let site = sites[first as usize];
-    if !is_write(site) {
+    let site = &sites[first as usize];
+    if !is_read_in(sites, site) {
         return Ok(None);
     }
     let stops = stops_of(alloc, sites, site)?;

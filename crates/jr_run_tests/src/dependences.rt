@@ -293,6 +293,9 @@ pub(crate) const MANY: &'static str = "
 ~many 1*class A{void m(A a){|1001*if(a);|1*}} => 24 TooManySites A.m(A) 1001
 ~many 1*class A{int f;void m(){|1000*f=1;|1*}void n(boolean a){|1001*if(a);|1*}} => 24 \
     TooManySites A.n(boolean) 1001
+~# Lines that are only counted: of locals, and in a loop of each site with each.
+~many 1*class A{void mmmmmmmmmmmmmmmmmmmm(int x){|500*x=x;|1*}} => 23 ReportFull 10514950
+~many 1*class A{volatile int v;void m(){while(true){|499*v++;|1*}}} => 23 ReportFull 33876614
 ~# What the lines of all members come to.
 ~many 1*class A{int f;void m(){|700*f=1;|1*}void n(){|700*f=1;|1*}} => 23 ReportFull 10090065
 ";

@@ -83,6 +83,6 @@ fn rows_are_answered(rt: HostRuntime) {
     assert_rows(&rt, alloc, endings::ROWS, 11);
     assert_rows(&rt, alloc, dependences::ROWS, 64);
     assert_rows(&rt, alloc, dependences::AMONG, 79);
-    assert_rows(&rt, alloc, dependences::MANY, 12);
+    assert_rows(&rt, alloc, dependences::MANY, 14);
     assert_rows(&rt, alloc, dependences::SCRIPTS, 3);
 }

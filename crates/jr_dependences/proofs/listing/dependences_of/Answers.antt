@@ -1,30 +1,21 @@
-use Rattle.std.proofs.Common.{◌<◌, ◌+◌, List, [], map, sym, subst, arith}
-use Rattle.std.specs.Prelude.{IsTrue}
+use Rattle.std.proofs.Common.{ℕ, List, map, sym, subst}
+use Rattle.std.specs.Prelude.{Contains, ◌↔◌, IsTrue}
+use Rattle.std.proofs.lemmas.Result.{IfOk-weaker}
+use Rattle.jr_sync.specs.declared.sites.Site.{Site}
 use Rattle.jr_dependences.specs.declared.dependence.Dependence.{Dependence}
 use Rattle.jr_dependences.specs.Depends.{DependsIn}
-use Rattle.jr_dependences.specs.Listed.{IsOn, Adds}
-use Rattle.jr_dependences.proofs.Adding.{adds_none, adds_then, listed_alone}
-use Rattle.jr_dependences.proofs.Asking.{on_before, on_more}
-use Rattle.jr_dependences.proofs.Pointing.{mapped_within}
+use Rattle.jr_dependences.specs.Numbers.{SameNumber, IsRowOf}
+use Rattle.jr_dependences.proofs.Telling.{both_ways}
 use Rattle.jr_dependences.proofs.listing.dependences_of.Goals as goal
 
-pub loop-first-init : goal.loop-first-init
-loop-first-init g c =
-    subst (λ (l : List Dependence). Adds (λ d. d.first < 0) (DependsIn (λ x y. IsTrue (g.K.PartialEq.eq x y)) (λ x y. IsTrue (g.L.PartialEq.eq x y)) (map (λ s. s.now) c.args.sites.now) c.args.graph.now.edges.items) [] l) (sym c.new-list.ensures.items)
-    (adds_none (DependsIn (λ x y. IsTrue (g.K.PartialEq.eq x y)) (λ x y. IsTrue (g.L.PartialEq.eq x y)) (map (λ s. s.now) c.args.sites.now) c.args.graph.now.edges.items) (λ d. d.first < 0) [] (λ x q p. omega arith))
-
-pub loop-first-preserved : goal.loop-first-preserved
-loop-first-preserved g c =
-    let first = c.loop-first.first in
-    adds_then (DependsIn (λ x y. IsTrue (g.K.PartialEq.eq x y)) (λ x y. IsTrue (g.L.PartialEq.eq x y)) (map (λ s. s.now) c.args.sites.now) c.args.graph.now.edges.items) (λ d. d.first < first) (IsOn first) (λ d. d.first < first + 1)
-    [] c.loop-first.list.items c.push_row.new.list.items c.loop-first.invariant c.in_ok-push_row.ensures
-    (on_before first) (λ x h. on_more first x)
-
 pub returns-clause-ordered : goal.returns-clause-ordered
-returns-clause-ordered g c =
-    (listed_alone (DependsIn (λ x y. IsTrue (g.K.PartialEq.eq x y)) (λ x y. IsTrue (g.L.PartialEq.eq x y)) (map (λ s. s.now) c.args.sites.now) c.args.graph.now.edges.items) (λ d. d.first < c.loop-first.first) c.loop-first.list.items c.loop-first.invariant).ordered
+returns-clause-ordered g c = c.dependences_between.ensures.ordered
 
 pub returns-clause-exact : goal.returns-clause-exact
-returns-clause-exact g c d =
-    let listed = listed_alone (DependsIn (λ x y. IsTrue (g.K.PartialEq.eq x y)) (λ x y. IsTrue (g.L.PartialEq.eq x y)) (map (λ s. s.now) c.args.sites.now) c.args.graph.now.edges.items) (λ e. e.first < c.loop-first.first) c.loop-first.list.items c.loop-first.invariant in
-    (λ at. ((listed.exact d).0 at).1, λ h. (listed.exact d).1 (omega (arith, mapped_within (λ s. s.now) c.args.sites.now d.first h.0 h.2), h))
+returns-clause-exact g c =
+    let edges = c.args.graph.now.edges.items in
+    let alike = subst (λ (row : List (Site ℕ ℕ)). IsRowOf (λ x y. IsTrue (g.K.PartialEq.eq x y)) (λ x y. IsTrue (g.L.PartialEq.eq x y)) (map (λ s. s.now) c.args.sites.now) row) (sym c.as_slice.ensures.value) c.in_ok-row.ensures.depend in
+    IfOk-weaker c.dependences_between.result
+    (λ list. (d : Dependence) → (Contains list.items d ↔ DependsIn SameNumber SameNumber c.as_slice.result.now edges d))
+    (λ list. (d : Dependence) → (Contains list.items d ↔ DependsIn (λ x y. IsTrue (g.K.PartialEq.eq x y)) (λ x y. IsTrue (g.L.PartialEq.eq x y)) (map (λ s. s.now) c.args.sites.now) edges d))
+    (λ list h d. both_ways (h d) (alike edges d)) c.dependences_between.ensures.exact

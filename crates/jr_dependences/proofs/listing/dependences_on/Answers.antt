@@ -1,12 +1,12 @@
-use Rattle.std.proofs.Common.{List, map, subst}
-use Rattle.std.specs.Prelude.{IsTrue}
+use Rattle.std.proofs.Common.{List, subst}
 use Rattle.jr_dependences.specs.declared.dependence.Dependence.{Dependence}
 use Rattle.jr_dependences.specs.Depends.{DependsIn}
 use Rattle.jr_dependences.specs.Listed.{IsOn, Adds}
+use Rattle.jr_dependences.specs.Numbers.{SameNumber}
 use Rattle.jr_dependences.proofs.Adding.{listed_alone}
 use Rattle.jr_dependences.proofs.listing.dependences_on.Goals as goal
 
 pub returns : goal.returns
-returns g c =
-    listed_alone (DependsIn (λ x y. IsTrue (g.K.PartialEq.eq x y)) (λ x y. IsTrue (g.L.PartialEq.eq x y)) (map (λ s. s.now) c.args.sites.now) c.args.graph.now.edges.items) (IsOn c.args.first) c.push_row.new.list.items
-    (subst (λ (l : List Dependence). Adds (IsOn c.args.first) (DependsIn (λ x y. IsTrue (g.K.PartialEq.eq x y)) (λ x y. IsTrue (g.L.PartialEq.eq x y)) (map (λ s. s.now) c.args.sites.now) c.args.graph.now.edges.items) l c.push_row.new.list.items) c.new-list.ensures.items c.in_ok-push_row.ensures)
+returns c =
+    listed_alone (DependsIn SameNumber SameNumber c.args.sites.now c.args.graph.now.edges.items) (IsOn c.args.first) c.push_row.new.list.items
+    (subst (λ (l : List Dependence). Adds (IsOn c.args.first) (DependsIn SameNumber SameNumber c.args.sites.now c.args.graph.now.edges.items) l c.push_row.new.list.items) c.new-list.ensures.items c.in_ok-push_row.ensures)

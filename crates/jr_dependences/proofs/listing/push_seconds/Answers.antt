@@ -1,24 +1,30 @@
-use Rattle.std.proofs.Common.{◌<◌, ◌+◌, map, arith}
-use Rattle.std.specs.Prelude.{IsTrue}
+use Rattle.std.proofs.Common.{◌<◌, ◌+◌, List, sym, subst, arith}
+use Rattle.std.proofs.lemmas.Option.{slice_get_within}
+use Rattle.jr_dependences.specs.declared.dependence.Dependence.{Dependence}
 use Rattle.jr_dependences.specs.Depends.{DependsIn}
-use Rattle.jr_dependences.specs.Listed.{IsOn, IsBetween}
+use Rattle.jr_dependences.specs.Kinds.{told}
+use Rattle.jr_dependences.specs.Listed.{IsOn, IsBetween, Adds}
+use Rattle.jr_dependences.specs.Numbers.{SameNumber}
 use Rattle.jr_dependences.proofs.Adding.{adds_none, adds_same, adds_then}
 use Rattle.jr_dependences.proofs.Asking.{IsUpTo, up_to_before, up_to_more}
-use Rattle.jr_dependences.proofs.Pointing.{mapped_within}
+use Rattle.jr_dependences.proofs.Telling.{told_listed, adds_listed}
 use Rattle.jr_dependences.proofs.listing.push_seconds.Goals as goal
 
 pub loop-second-init : goal.loop-second-init
-loop-second-init g c edges known = adds_none (DependsIn (λ x y. IsTrue (g.K.PartialEq.eq x y)) (λ x y. IsTrue (g.L.PartialEq.eq x y)) (map (λ s. s.now) c.args.sites.now) edges) (IsUpTo c.args.first 0) c.args.list.now.items (λ x q p. let low : x.second < 0 = q.1 in omega arith)
+loop-second-init c edges known = adds_none (DependsIn SameNumber SameNumber c.args.sites.now edges) (IsUpTo c.args.first 0) c.args.list.now.items (λ x q p. let low : x.second < 0 = q.1 in omega arith)
 
 pub loop-second-preserved : goal.loop-second-preserved
-loop-second-preserved g c edges known =
+loop-second-preserved c edges known =
+    let H = DependsIn SameNumber SameNumber c.args.sites.now edges in
     let first = c.args.first in
     let second = c.loop-second.second in
-    adds_then (DependsIn (λ x y. IsTrue (g.K.PartialEq.eq x y)) (λ x y. IsTrue (g.L.PartialEq.eq x y)) (map (λ s. s.now) c.args.sites.now) edges) (IsUpTo first second) (IsBetween first second) (IsUpTo first (second + 1))
-    c.args.list.now.items c.loop-second.list.items c.push_pair.new.list.items (c.loop-second.invariant edges known)
-    (c.in_ok-push_pair.ensures edges known) (up_to_before first second) (λ x h. up_to_more first second x)
+    let kinds = c.kinds_between-kinds.result in
+    let more = adds_listed (IsBetween first second) H c.loop-second.list.items (told kinds first second) (told_listed H first second kinds (c.kinds_between-kinds.ensures edges known)) in
+    adds_then H (IsUpTo first second) (IsBetween first second) (IsUpTo first (second + 1)) c.args.list.now.items c.loop-second.list.items c.push_kinds.new.list.items (c.loop-second.invariant edges known)
+    (subst (λ (l : List Dependence). Adds (IsBetween first second) H c.loop-second.list.items l) (sym c.in_ok-push_kinds.ensures) more) (up_to_before first second) (λ x h. up_to_more first second x)
 
 pub returns : goal.returns
-returns g c edges known =
-    adds_same (DependsIn (λ x y. IsTrue (g.K.PartialEq.eq x y)) (λ x y. IsTrue (g.L.PartialEq.eq x y)) (map (λ s. s.now) c.args.sites.now) edges) (IsUpTo c.args.first c.loop-second.second) (IsOn c.args.first) c.args.list.now.items c.loop-second.list.items
-    (λ x h. (λ p. p.0, λ p. (p, omega (arith, mapped_within (λ s. s.now) c.args.sites.now x.second h.1 h.3)))) (c.loop-second.invariant edges known)
+returns c edges known =
+    let le = c.loop-second-test.false in
+    adds_same (DependsIn SameNumber SameNumber c.args.sites.now edges) (IsUpTo c.args.first c.loop-second.second) (IsOn c.args.first) c.args.list.now.items c.loop-second.list.items
+    (λ x h. (λ p. p.0, λ p. (p, omega (arith, le, slice_get_within c.args.sites.now x.second h.1 h.3)))) (c.loop-second.invariant edges known)
