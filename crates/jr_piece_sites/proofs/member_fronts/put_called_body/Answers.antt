@@ -1,0 +1,66 @@
+use Rattle.std.proofs.Common.{◌≡◌, ℕ, zero, suc, pred, ◌+◌, ◌-◌, List, [], ◌∷◌, ◌++◌, length, take, map, Option, Some, None, option_map, refl, ap, sym, subst, ◌∙◌, arith}
+use Rattle.jr_text.specs.declared.spans.Span.{Span}
+use Rattle.jr_ast.specs.declared.exprs.Expr.{Expr}
+use Rattle.jr_ast.specs.declared.stmts.Stmt.{Stmt}
+use Rattle.jr_ast.specs.Marks.{exp_mark, stmt_mark}
+use Rattle.jr_ast.specs.View.{expr_of, exprs_of, stmt_of, stmts_of}
+use Rattle.jr_ast.proofs.Rows.{expr_mark_is, stmt_mark_is}
+use Rattle.jr_bind_expr.specs.Fits.{FitsExp, FitsExps, FitsTarget, FitsStmt, FitsStmts}
+use Rattle.jr_bind_expr.proofs.Steps.{own_fits}
+use Rattle.jr_cover.specs.Sites.{unless, exps_way, stmts_way}
+use Rattle.jr_cover.specs.Spots.{spot_exp, spot_exps, spot_stmt, spot_stmts}
+use Rattle.jr_cover.specs.Ways.{size}
+use Rattle.jr_expr_sites.specs.StepView.{given}
+use Rattle.jr_expr_sites.specs.KnownFacts.{Others, known_of}
+use Rattle.jr_expr_sites.specs.Routes.{begins_by, ends_by, spots}
+use Rattle.jr_expr_sites.specs.Routes as route
+use Rattle.jr_expr_sites.proofs.Walking.{on_ok_then}
+use Rattle.jr_cfg.specs.StatementRoutes as list
+use Rattle.jr_piece_sites.specs.Fronts.{one_if, behind_first, in_front_of_second, exps_front, exp_front, stmts_front}
+use Rattle.jr_piece_sites.specs.Growth.{count, Grows, GrownTo}
+use Rattle.jr_piece_sites.specs.Parts as parts
+use Rattle.jr_piece_sites.specs.Parts.{Parts, parts_of}
+use Rattle.jr_piece_sites.specs.PartsView.{parts_view, between_of}
+use Rattle.jr_piece_sites.proofs.Counting as counting
+use Rattle.jr_piece_sites.proofs.ExprKinds as kind
+use Rattle.jr_ast.specs.StatementTree as statement
+use Rattle.jr_table.specs.Context.{locals_in, locals_in_row}
+use Rattle.jr_cfg.specs.StatementRoutes.{Passed, Numbered, NumberedAll}
+use Rattle.jr_piece_sites.specs.Fronts.{branch_front, stmt_front}
+use Rattle.jr_piece_sites.specs.Pieces.{locals_up_to, branch_locals, stmt_locals}
+use Rattle.jr_piece_sites.proofs.Growths as growth
+use Rattle.jr_ast.specs.MemberTree as declared
+use Rattle.jr_ast.specs.View.{args_of, modifier_of, param_of, type_of, member_of, word_of, class_of, member_kind, member_row}
+use Rattle.jr_ast.proofs.Rows.{member_mark_is}
+use Rattle.jr_runs.specs.MemberTranslation.{is_synchronized}
+use Rattle.jr_cfg.specs.MemberRoutes.{FitsArgs, FitsSites}
+use Rattle.jr_cover.specs.Spots.{spot_args, spot_member}
+use Rattle.jr_piece_sites.specs.Fronts.{method_body, constructor_body, exps_then_front, member_front}
+use Rattle.jr_piece_sites.specs.Parts.{behind}
+use Rattle.jr_piece_sites.specs.Pieces as piece
+use Rattle.jr_piece_sites.specs.Pieces.{method_front, constructor_front, arguments, exps_then_locals, constructor_locals, member_locals}
+use Rattle.jr_piece_sites.proofs.Places as place
+use Rattle.jr_piece_sites.proofs.MemberArms as arm
+use Rattle.std.proofs.lemmas.List.{length-map}
+use Rattle.jr_piece_sites.proofs.member_fronts.put_called_body.Goals as goal
+
+pub put_stmts-requires : goal.put_stmts-requires
+put_stmts-requires g c = record { fits = c.requires.fits }
+
+pub returns : goal.returns
+returns g c =
+    let T = g.A.Mark.span_from in
+    let F = g.A.Mark.fits_at in
+    let G = given g.F.Facts.decls g.F.Facts.types c.args.here.now in
+    let path = c.args.path.now.steps.items in
+    let old = c.args.out.now.items in
+    let mid = c.put_site.new.out.items in
+    let new = c.put_stmts.new.out.items in
+    let at = c.args.here.now.start in
+    let n = c.args.number in
+    let body = stmts_of c.args.body.now in
+    let so = NumberedAll T n path c.args.first at body in
+    let m = λ (o : Others). stmts_front (known_of G o) (spot_stmts (begins_by T) (ends_by T) body at path c.args.first) c.args.count in
+    let next = n + locals_up_to body c.args.count in
+    growth.if_ok_then c.put_stmts.result (λ k p. growth.to_as G so so (λ o. 1 + m o) (λ o. suc (m o)) next next k old new (λ o h. h) (λ o. counting.one_more (m o)) refl
+    (growth.after_walk G so (λ o. 1) m next k old mid new (counting.walk_grows G (route.done _ at) old mid (c.in_ok-put_site.ensures G)) p)) c.put_stmts.ensures

@@ -1,0 +1,19 @@
+use Rattle.std.proofs.Common.{◌≡◌, ℕ, suc, ◌+◌, ◌-◌, ◌<◌, ◌≤◌, List, Some, None, Bor, length, map, option_map, ap, sym, ◌∙◌, arith}
+use Rattle.std.proofs.lemmas.List.{length-map}
+use Rattle.jr_ast.specs.declared.exprs.Expr.{Expr}
+use Rattle.jr_ast.specs.declared.stmts.Stmt.{Stmt}
+use Rattle.jr_ast.specs.View.{expr_of, exprs_of, stmt_of, stmts_of, else_of, args_of, type_of, modifier_of, param_of, member_of, word_of}
+use Rattle.jr_piece_sites.specs.Parts as parts
+use Rattle.jr_piece_sites.specs.Pieces as pure
+use Rattle.jr_piece_sites.specs.PieceView.{piece_of}
+use Rattle.jr_piece_sites.proofs.Places as place
+use Rattle.jr_piece_sites.proofs.pieces.exps_then.Goals as goal
+
+pub returns-in-None : goal.returns-in-None
+returns-in-None g c =
+    let h = c.in-None.ensures in
+    c.nth_exp.ensures ∙ place.args_first c.args.args.now c.args.body.now c.args.number (omega (arith, h))
+
+pub returns-in-Some : goal.returns-in-Some
+returns-in-Some g c =
+    c.nth_stmt.ensures ∙ place.then_stmts c.args.args.now c.args.body.now c.args.number c.in-Some.left c.in-Some.ensures.0 c.in-Some.ensures.1
