@@ -37,6 +37,10 @@ module _ (g : Given) where
   pub stays : (old : Steps) → Grows g (λ o. 0) old old
   stays old o = omega arith
 
+  -- what was put, where nothing stood before
+  pub only_these : (old new : Steps) {n : ℕ} → old ≡ [] → count g new ≡ count g old + n → count g new ≡ n
+  only_these old new none h = let a : count g old ≡ 0 = ap (count g) none in omega (arith, a, h)
+
   pub grows_as : (n m : Others → ℕ) (old new : Steps) → ((o : Others) → n o ≡ m o) → Grows g n old new → Grows g m old new
   grows_as n m old new same h o = h o ∙ ap (λ (k : ℕ). count g old + k) (same o)
 

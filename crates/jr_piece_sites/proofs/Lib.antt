@@ -5,7 +5,8 @@
 -- `StmtArms`, `MemberArms`: what stands in front of a part of each kind of expression, statement
 -- and member; `Descents`: the way down a path; `Putting`: statements among the parts of a piece.
 -- `WaysDown`: what stands in front on a path is what is evaluated before; `Withins`: statements
--- stand in pieces behind it.
+-- stand in pieces behind it; `WayPaths`: the path of a way leads where it does; `Standings`: so
+-- pieces have ranges of sites.
 mod Places
 mod PartRows
 mod Spotting
@@ -21,3 +22,5 @@ mod Putting
 mod ExprKinds
 mod WaysDown
 mod Withins
+mod WayPaths
+mod Standings

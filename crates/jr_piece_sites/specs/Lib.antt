@@ -7,3 +7,4 @@ pub mod Growth
 pub mod Leads
 pub mod Descent
 pub mod PartSites
+pub mod Extents

@@ -31,7 +31,7 @@ use jr_text::Mark;
 use std::alloc::{AllocError, Global};
 
 /// How many sites are among steps. More sites than numbers don't fit any memory.
-fn count_sites<F: Facts>(
+pub(crate) fn count_sites<F: Facts>(
     alloc: Global,
     here: &Here<'_, F>,
     steps: &[Step<'_>],
