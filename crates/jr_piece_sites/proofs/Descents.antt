@@ -75,7 +75,7 @@ module _ {A : Type 0} (tells : A → ℕ → Span) where
   starts at start (piece.exp e) h = tt
 
   -- the parts on spots
-  part_spots : (x c : Piece A) (b : ℕ) (p : List ℕ) (i : ℕ) → part_of x i ≡ Some c → part_of (spotted tells b p x) i ≡ Some (spotted tells (begins_by tells (mark_of x) b) (onto p i) c)
+  pub part_spots : (x c : Piece A) (b : ℕ) (p : List ℕ) (i : ℕ) → part_of x i ≡ Some c → part_of (spotted tells b p x) i ≡ Some (spotted tells (begins_by tells (mark_of x) b) (onto p i) c)
   part_spots x c b p i is = part_same tells x b p i ∙ ap (option_map (spotted tells (begins_by tells (mark_of x) b) (onto p i))) is
 
   pub part_off : (x : Piece A) (b : ℕ) (p : List ℕ) (i : ℕ) → part_of x i ≡ None → part_of (spotted tells b p x) i ≡ None

@@ -3,7 +3,8 @@
 -- fit; `Numbers`: their locals have numbers. `Leading`: paths lead from piece to piece.
 -- `Counting`: how many sites steps have; `Growths`: walks one behind the other; `ExprKinds`,
 -- `StmtArms`, `MemberArms`: what stands in front of a part of each kind of expression, statement
--- and member; `Descents`: the way down a path; `Putting`: statements among the parts of a piece.
+-- and member; `Descents`: the way down a path; `SpottedPaths`: paths lead on spots
+-- where they lead on the tree; `Putting`: statements among the parts of a piece.
 -- `WaysDown`: what stands in front on a path is what is evaluated before; `Withins`: statements
 -- stand in pieces behind it; `WayPaths`: the path of a way leads where it does; `Standings`: so
 -- pieces have ranges of sites.
@@ -17,6 +18,7 @@ mod Counting
 mod Growths
 mod StmtArms
 mod Descents
+mod SpottedPaths
 mod MemberArms
 mod Putting
 mod ExprKinds

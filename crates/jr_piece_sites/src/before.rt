@@ -57,8 +57,7 @@ fn count_before<F: Facts, A: Mark>(
 ) -> Result<u32, AllocError>
     requires fits { FitsSites A.span_from A.fits_at base (member_of member.now) }
     requires start { here.now.start ≡ begins_by A.span_from member.now.mark base }
-    requires at { Leads (spots_of A.span_from base (member_of member.now))
-        (outer.now.steps.items ++ path.now.steps.items) }
+    requires at { Leads (member_of member.now) (outer.now.steps.items ++ path.now.steps.items) }
     ensures { (o : Others) → NumbersMember A.span_from base (member_of member.now) o
         → (x : Piece Spot)
         → piece.piece_at (piece.member (spots_of A.span_from base (member_of member.now)))
@@ -97,8 +96,7 @@ pub fn sites_before<A: Mark, F: Facts>(
     never_null: &[bool],
 ) -> Result<u32, AllocError>
     requires fits { FitsSites A.span_from A.fits_at base (member_of member.now) }
-    requires at { Leads (spots_of A.span_from base (member_of member.now))
-        (outer.now.steps.items ++ path.now.steps.items) }
+    requires at { Leads (member_of member.now) (outer.now.steps.items ++ path.now.steps.items) }
     ensures exact { (o : Others)
         → NumbersMember A.span_from base (member_of member.now) o → (x : Piece Spot)
         → piece.piece_at (piece.member (spots_of A.span_from base (member_of member.now)))

@@ -44,8 +44,7 @@ pub fn footprint<A: Mark, F: Facts>(
     never_null: &[bool],
 ) -> Result<Vec<PlacedSite>, AllocError>
     requires fits { FitsSites A.span_from A.fits_at base (member_of member.now) }
-    requires at { LeadsToExp (spots_of A.span_from base (member_of member.now))
-        path.now.steps.items }
+    requires at { LeadsToExp (member_of member.now) path.now.steps.items }
     ensures { (o : Others) (e : tree.Exp Spot)
         → nodes.exp_at (nodes.member (spots_of A.span_from base (member_of member.now)))
         path.now.steps.items ≡ Some e
@@ -206,8 +205,7 @@ pub fn footprint_of<A: Mark, F: Facts>(
     never_null: &[bool],
 ) -> Result<Vec<PlacedSite>, AllocError>
     requires fits { FitsSites A.span_from A.fits_at base (member_of member.now) }
-    requires there { LeadsToParts (spots_of A.span_from base (member_of member.now))
-        list.now.steps.items from to }
+    requires at { LeadsToParts (member_of member.now) list.now.steps.items from to }
     ensures { (o : Others) → NumbersMember A.span_from base (member_of member.now) o
         → (n : Node Spot)
         → nodes.node_at (nodes.member (spots_of A.span_from base (member_of member.now)))

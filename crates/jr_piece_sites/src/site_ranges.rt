@@ -105,7 +105,7 @@ fn range_at<F: Facts, A: Mark>(
 ) -> Result<SiteRange, AllocError>
     requires fits { FitsSites A.span_from A.fits_at base (member_of member.now) }
     requires start { here.now.start ≡ begins_by A.span_from member.now.mark base }
-    requires at { Leads (spots_of A.span_from base (member_of member.now)) path.now.steps.items }
+    requires at { Leads (member_of member.now) path.now.steps.items }
     ensures { (o : Others) → NumbersMember A.span_from base (member_of member.now) o
         → (x : piece.Piece Spot)
         → piece.piece_at (piece.member (spots_of A.span_from base (member_of member.now)))
@@ -143,7 +143,7 @@ pub fn site_range<A: Mark, F: Facts>(
     never_null: &[bool],
 ) -> Result<SiteRange, AllocError>
     requires fits { FitsSites A.span_from A.fits_at base (member_of member.now) }
-    requires at { Leads (spots_of A.span_from base (member_of member.now)) path.now.steps.items }
+    requires at { Leads (member_of member.now) path.now.steps.items }
     ensures of_statement { (o : Others)
         → NumbersMember A.span_from base (member_of member.now) o → (z : statement.Stmt Spot)
         → nodes.stmt_at (nodes.member (spots_of A.span_from base (member_of member.now)))

@@ -27,7 +27,7 @@ use Rattle.jr_piece_sites.specs.Pieces as pure
 use Rattle.jr_piece_sites.specs.Pieces.{Piece, FitsPiece, NumbersPiece, StartsAt, spotted, piece_at, part_of, mark_of, first_number}
 use Rattle.jr_piece_sites.specs.PieceView.{piece_of}
 use Rattle.jr_piece_sites.proofs.Fitting.{member_own}
-use Rattle.jr_piece_sites.proofs.Leading as leading
+use Rattle.jr_piece_sites.proofs.SpottedPaths as spotted_path
 use Rattle.jr_piece_sites.proofs.Descents as down
 use Rattle.jr_piece_sites.proofs.Growths as growth
 use Rattle.std.specs.Prelude.{option_and_then}
@@ -49,9 +49,9 @@ descend-requires g c =
     let outer = c.args.outer.now.steps.items in
     let path = c.args.path.now.steps.items in
     let x = pure.member (spots_of T base m) in
-    let owner = c.requires.at.0 in
-    let z = c.requires.at.1.0 in
-    let leads = sym (down.through outer path x) ∙ leading.piece_leads x owner (outer ++ path) z c.requires.at.1.1 in
+    let found = spotted_path.some_at T m base (outer ++ path) c.requires.at in
+    let z = found.to in
+    let leads = sym (down.through outer path x) ∙ found.leads in
     let on = λ (o : Option (Piece Spot)). option_and_then (λ (y : Piece Spot). piece_at y path) o in
     let first = subst (λ r. IfSome r (λ f. Descended T F G 0 base [] (pure.member m) outer [] f.number f.base (piece_of f.of) outer c.new-passed.result.items c.reach-reached.new.out.items)) c.in-Some.is c.in_ok-reached.ensures.found in
     record { fits = first.fits; begins = first.start }
@@ -66,9 +66,9 @@ unreachable-requires g c =
     let outer = c.args.outer.now.steps.items in
     let path = c.args.path.now.steps.items in
     let x = pure.member (spots_of T base m) in
-    let owner = c.requires.at.0 in
-    let z = c.requires.at.1.0 in
-    let leads = sym (down.through outer path x) ∙ leading.piece_leads x owner (outer ++ path) z c.requires.at.1.1 in
+    let found = spotted_path.some_at T m base (outer ++ path) c.requires.at in
+    let z = found.to in
+    let leads = sym (down.through outer path x) ∙ found.leads in
     let on = λ (o : Option (Piece Spot)). option_and_then (λ (y : Piece Spot). piece_at y path) o in
     let no = c.in_ok-reached.ensures.none (sym c.in-None.is) in
     none-some z (ap on no ∙ leads)
@@ -83,9 +83,9 @@ returns-in-Some g c o numbers y at =
     let outer = c.args.outer.now.steps.items in
     let path = c.args.path.now.steps.items in
     let x = pure.member (spots_of T base m) in
-    let owner = c.requires.at.0 in
-    let z = c.requires.at.1.0 in
-    let leads = sym (down.through outer path x) ∙ leading.piece_leads x owner (outer ++ path) z c.requires.at.1.1 in
+    let found = spotted_path.some_at T m base (outer ++ path) c.requires.at in
+    let z = found.to in
+    let leads = sym (down.through outer path x) ∙ found.leads in
     let on = λ (o : Option (Piece Spot)). option_and_then (λ (y : Piece Spot). piece_at y path) o in
     let first = subst (λ r. IfSome r (λ f. Descended T F G 0 base [] (pure.member m) outer [] f.number f.base (piece_of f.of) outer c.new-passed.result.items c.reach-reached.new.out.items)) c.in-Some.is c.in_ok-reached.ensures.found in
     let f = c.in-Some.found in

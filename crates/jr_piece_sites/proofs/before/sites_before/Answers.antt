@@ -28,6 +28,7 @@ use Rattle.jr_piece_sites.specs.Pieces.{Piece, FitsPiece, NumbersPiece, StartsAt
 use Rattle.jr_piece_sites.specs.PieceView.{piece_of}
 use Rattle.jr_piece_sites.proofs.Fitting.{member_own}
 use Rattle.jr_piece_sites.proofs.Leading as leading
+use Rattle.jr_piece_sites.proofs.SpottedPaths as spotted_path
 use Rattle.jr_piece_sites.proofs.Descents as down
 use Rattle.jr_piece_sites.proofs.Growths as growth
 use Rattle.jr_effect.specs.Within.{Within}
@@ -70,7 +71,7 @@ returns-clause-of_expression g c o numbers s at e way is =
     let start : c.span.result.from ≡ begins_by T (member_mark m) base = ap (λ (z : Span). z.from) c.span.ensures ∙ ap (λ (x : g.row.A.Denot). begins_by T x base) (sym (member_mark_is c.args.member.now)) in
     let same : G ≡ K = (λ i. record { rows = c.args.table.now; member = c.member.ensures i; start = start i; decls = g.F.Facts.decls facts; types = g.F.Facts.types facts; never_null = c.args.never_null.now }) in
     let path = c.args.path.now.steps.items in
-    let x = leading.stmt_leads (pure.member (spots_of T base m)) c.requires.at.0 c.args.outer.now.steps.items s at in
+    let x = leading.stmt_leads (pure.member (spots_of T base m)) (spotted_path.owner T m base c.requires.at.0) c.args.outer.now.steps.items s at in
     subst (λ (q : Given). IfOk c.count_before.result (λ n. n ≡ length (stmt_before (known_of q o) way))) same
     (growth.if_ok_then c.count_before.result (λ n h. h ∙ ap (before (known_of G o) (pure.stmt s)) (sym is) ∙ stmt_counts (known_of G o) s way) (c.count_before.ensures o numbers (pure.stmt s) x))
 
@@ -86,7 +87,7 @@ returns-clause-of_statement g c o numbers s at z there =
     let start : c.span.result.from ≡ begins_by T (member_mark m) base = ap (λ (z : Span). z.from) c.span.ensures ∙ ap (λ (x : g.row.A.Denot). begins_by T x base) (sym (member_mark_is c.args.member.now)) in
     let same : G ≡ K = (λ i. record { rows = c.args.table.now; member = c.member.ensures i; start = start i; decls = g.F.Facts.decls facts; types = g.F.Facts.types facts; never_null = c.args.never_null.now }) in
     let path = c.args.path.now.steps.items in
-    let x = leading.stmt_leads (pure.member (spots_of T base m)) c.requires.at.0 c.args.outer.now.steps.items s at in
+    let x = leading.stmt_leads (pure.member (spots_of T base m)) (spotted_path.owner T m base c.requires.at.0) c.args.outer.now.steps.items s at in
     let y = leading.stmt_leads (pure.stmt s) tt path z there in
     subst (λ (q : Given). IfOk c.count_before.result (λ n. Within (stmt_way (known_of q o) z) (stmt_way (known_of q o) s) n)) same
     (growth.if_ok_then c.count_before.result (λ n h. subst (λ (k : ℕ). Within (stmt_way (known_of G o) z) (stmt_way (known_of G o) s) k) (sym h) (within.stmt_within (known_of G o) z path s y)) (c.count_before.ensures o numbers (pure.stmt s) x))
@@ -105,7 +106,7 @@ returns-clause-in_member g c o numbers none z there k super_at =
     let path = c.args.path.now.steps.items in
     let whole = pure.member (spots_of T base m) in
     let x : piece_at whole c.args.outer.now.steps.items ≡ Some whole = ap (piece_at whole) none ∙ down.step_end whole in
-    let y = leading.stmt_leads whole c.requires.at.0 path z there in
+    let y = leading.stmt_leads whole (spotted_path.owner T m base c.requires.at.0) path z there in
     subst (λ (q : Given). IfOk c.count_before.result (λ n. Within (stmt_way (known_of q o) z) (member_route.member T super_at base k m q o) n)) same
     (growth.if_ok_then c.count_before.result (λ n h. subst (λ (j : ℕ). Within (stmt_way (known_of G o) z) (member_route.member T super_at base k m G o) j) (sym h)
     (within.member_within (known_of G o) z path (λ _. k) (λ _. place G (member_route.called_at T super_at base m)) (spots_of T base m) y)) (c.count_before.ensures o numbers whole x))

@@ -28,6 +28,7 @@ use Rattle.jr_piece_sites.specs.Pieces.{Piece, FitsPiece, NumbersPiece, StartsAt
 use Rattle.jr_piece_sites.specs.PieceView.{piece_of}
 use Rattle.jr_piece_sites.proofs.Fitting.{member_own}
 use Rattle.jr_piece_sites.proofs.Leading as leading
+use Rattle.jr_piece_sites.proofs.SpottedPaths as spotted_path
 use Rattle.jr_piece_sites.proofs.Descents as down
 use Rattle.jr_piece_sites.proofs.Growths as growth
 use Rattle.jr_piece_sites.specs.Leads.{of_exp}
@@ -51,9 +52,9 @@ unreachable-requires g c =
     let same : G ≡ K = (λ i. record { rows = c.args.table.now; member = c.member.ensures i; start = start i; decls = g.F.Facts.decls facts; types = g.F.Facts.types facts; never_null = c.args.never_null.now }) in
     let path = c.args.path.now.steps.items in
     let x = pure.member (spots_of T base m) in
-    let owner = c.requires.at.0 in
-    let e = c.requires.at.1.0 in
-    let leads = leading.exp_leads x owner path e c.requires.at.1.1 in
+    let at = spotted_path.exp_at T m base path c.requires.at in
+    let e = at.0 in
+    let leads = at.1 in
     let all = subst (λ (q : List ℕ). option_map (λ p. spotted T p.base q (piece_of p.of)) c.piece_at.result ≡ piece_at x q) c.deref.ensures.value c.piece_at.ensures.spots in
     none-some (pure.exp e) (subst (λ r. option_map (λ p. spotted T p.base path (piece_of p.of)) r ≡ piece_at x path) c.in-None.is all ∙ leads)
 
@@ -70,9 +71,9 @@ unreachable-requires-in-Stmt g c =
     let same : G ≡ K = (λ i. record { rows = c.args.table.now; member = c.member.ensures i; start = start i; decls = g.F.Facts.decls facts; types = g.F.Facts.types facts; never_null = c.args.never_null.now }) in
     let path = c.args.path.now.steps.items in
     let x = pure.member (spots_of T base m) in
-    let owner = c.requires.at.0 in
-    let e = c.requires.at.1.0 in
-    let leads = leading.exp_leads x owner path e c.requires.at.1.1 in
+    let at = spotted_path.exp_at T m base path c.requires.at in
+    let e = at.0 in
+    let leads = at.1 in
     let f = c.in-Some.found in
     let y = piece_of f.of in
     let all = subst (λ (q : List ℕ). option_map (λ p. spotted T p.base q (piece_of p.of)) c.piece_at.result ≡ piece_at x q) c.deref.ensures.value c.piece_at.ensures.spots in
@@ -93,9 +94,9 @@ unreachable-requires-in-Member g c =
     let same : G ≡ K = (λ i. record { rows = c.args.table.now; member = c.member.ensures i; start = start i; decls = g.F.Facts.decls facts; types = g.F.Facts.types facts; never_null = c.args.never_null.now }) in
     let path = c.args.path.now.steps.items in
     let x = pure.member (spots_of T base m) in
-    let owner = c.requires.at.0 in
-    let e = c.requires.at.1.0 in
-    let leads = leading.exp_leads x owner path e c.requires.at.1.1 in
+    let at = spotted_path.exp_at T m base path c.requires.at in
+    let e = at.0 in
+    let leads = at.1 in
     let f = c.in-Some.found in
     let y = piece_of f.of in
     let all = subst (λ (q : List ℕ). option_map (λ p. spotted T p.base q (piece_of p.of)) c.piece_at.result ≡ piece_at x q) c.deref.ensures.value c.piece_at.ensures.spots in
@@ -116,7 +117,7 @@ returns g c o e at =
     let same : G ≡ K = (λ i. record { rows = c.args.table.now; member = c.member.ensures i; start = start i; decls = g.F.Facts.decls facts; types = g.F.Facts.types facts; never_null = c.args.never_null.now }) in
     let path = c.args.path.now.steps.items in
     let x = pure.member (spots_of T base m) in
-    let owner = c.requires.at.0 in
+    let owner = spotted_path.owner T m base c.requires.at.0 in
     let f = c.in-Some.found in
     let y = piece_of f.of in
     let all = subst (λ (q : List ℕ). option_map (λ p. spotted T p.base q (piece_of p.of)) c.piece_at.result ≡ piece_at x q) c.deref.ensures.value c.piece_at.ensures.spots in

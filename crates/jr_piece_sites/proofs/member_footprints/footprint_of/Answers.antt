@@ -28,6 +28,7 @@ use Rattle.jr_piece_sites.specs.Pieces.{Piece, FitsPiece, NumbersPiece, StartsAt
 use Rattle.jr_piece_sites.specs.PieceView.{piece_of}
 use Rattle.jr_piece_sites.proofs.Fitting.{member_own}
 use Rattle.jr_piece_sites.proofs.Leading as leading
+use Rattle.jr_piece_sites.proofs.SpottedPaths as spotted_path
 use Rattle.jr_piece_sites.proofs.Descents as down
 use Rattle.jr_piece_sites.proofs.Growths as growth
 use Rattle.jr_code.specs.RunKeys.{RunKeys}
@@ -57,10 +58,9 @@ unreachable-requires g c =
     let same : G ≡ K = (λ i. record { rows = c.args.table.now; member = c.member.ensures i; start = start i; decls = g.F.Facts.decls facts; types = g.F.Facts.types facts; never_null = c.args.never_null.now }) in
     let list = c.args.list.now.steps.items in
     let x = pure.member (spots_of T base m) in
-    let owner = c.requires.there.0 in
-    let z = c.requires.there.1.0 in
-    let leads = leading.piece_leads x owner list z c.requires.there.1.1.0 in
-    let are = c.requires.there.1.1.1.1 in
+    let parts = spotted_path.parts_at T m base list c.args.from c.args.to c.requires.at in
+    let z = parts.of in
+    let leads = parts.leads in
     none-some z (c.in_ok-reached.ensures.none (sym c.in-None.is) ∙ leads)
 
 pub parts_footprint-requires : goal.parts_footprint-requires
@@ -76,19 +76,18 @@ parts_footprint-requires g c =
     let same : G ≡ K = (λ i. record { rows = c.args.table.now; member = c.member.ensures i; start = start i; decls = g.F.Facts.decls facts; types = g.F.Facts.types facts; never_null = c.args.never_null.now }) in
     let list = c.args.list.now.steps.items in
     let x = pure.member (spots_of T base m) in
-    let owner = c.requires.there.0 in
-    let z = c.requires.there.1.0 in
-    let leads = leading.piece_leads x owner list z c.requires.there.1.1.0 in
-    let are = c.requires.there.1.1.1.1 in
+    let parts = spotted_path.parts_at T m base list c.args.from c.args.to c.requires.at in
+    let z = parts.of in
+    let leads = parts.leads in
     let first = subst (λ r. IfSome r (λ f. Descended T F G 0 base [] (pure.member m) list [] f.number f.base (piece_of f.of) list c.new-passed.result.items c.reach-reached.new.out.items)) c.in-Some.is c.in_ok-reached.ensures.found in
     let f = c.in-Some.found in
     let here = spotted T f.base list (piece_of f.of) in
     let same_piece : here ≡ z = same_Some here z (sym (down.step_end here) ∙ first.leads ∙ leads) in
-    let there = subst (λ (q : Piece Spot). AllStmts q c.args.from (c.args.to - c.args.from)) (sym same_piece) (leading.stmts_there z c.args.from (c.args.to - c.args.from) c.requires.there.1.1.1.0 are.are are.all) in
+    let there = subst (λ (q : Piece Spot). AllStmts q c.args.from (c.args.to - c.args.from)) (sym same_piece) parts.all in
     record {
       fits = first.fits;
       start = first.start;
-      ordered = are.ordered;
+      ordered = spotted_path.ordered m list c.args.from c.args.to c.requires.at;
       all = all_there T (piece_of f.of) f.base list c.args.from (c.args.to - c.args.from) there;
     }
 
@@ -105,17 +104,16 @@ returns-in-Some g c o numbers n at ss is =
     let same : G ≡ K = (λ i. record { rows = c.args.table.now; member = c.member.ensures i; start = start i; decls = g.F.Facts.decls facts; types = g.F.Facts.types facts; never_null = c.args.never_null.now }) in
     let list = c.args.list.now.steps.items in
     let x = pure.member (spots_of T base m) in
-    let owner = c.requires.there.0 in
-    let z = c.requires.there.1.0 in
-    let leads = leading.piece_leads x owner list z c.requires.there.1.1.0 in
-    let are = c.requires.there.1.1.1.1 in
+    let parts = spotted_path.parts_at T m base list c.args.from c.args.to c.requires.at in
+    let z = parts.of in
+    let leads = parts.leads in
     let first = subst (λ r. IfSome r (λ f. Descended T F G 0 base [] (pure.member m) list [] f.number f.base (piece_of f.of) list c.new-passed.result.items c.reach-reached.new.out.items)) c.in-Some.is c.in_ok-reached.ensures.found in
     let f = c.in-Some.found in
     let here = spotted T f.base list (piece_of f.of) in
     let same_piece : here ≡ z = same_Some here z (sym (down.step_end here) ∙ first.leads ∙ leads) in
     let count = c.args.to - c.args.from in
     let node : nodes.Node Spot = pure.node_of z in
-    let one : node ≡ n = same_Some node n (sym c.requires.there.1.1.0 ∙ at) in
+    let one : node ≡ n = same_Some node n (sym (leading.node_leads list x z leads) ∙ at) in
     let mine = subst (λ (q : nodes.Node Spot). AreParts q c.args.from c.args.to ss) (sym one) is in
     let X = known_of G o in
     let sites : parts_sites X here c.args.from count ≡ sites_of (stmts_way X ss) = ap (λ (q : Piece Spot). parts_sites X q c.args.from count) same_piece ∙ (leading.parts_are X z c.args.from count ss mine.are mine.all).1 in

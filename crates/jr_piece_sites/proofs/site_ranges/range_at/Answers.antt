@@ -14,7 +14,7 @@ use Rattle.jr_piece_sites.specs.Pieces.{Piece, piece_at, spotted}
 use Rattle.jr_piece_sites.specs.PieceView.{piece_of}
 use Rattle.jr_piece_sites.proofs.Descents.{counted, step_end}
 use Rattle.jr_piece_sites.proofs.Growths.{if_ok_then}
-use Rattle.jr_piece_sites.proofs.Leading.{piece_leads}
+use Rattle.jr_piece_sites.proofs.SpottedPaths.{some_at}
 use Rattle.jr_piece_sites.proofs.site_ranges.range_at.Goals as goal
 
 pub reach-reached-requires : goal.reach-reached-requires
@@ -22,9 +22,8 @@ reach-reached-requires g c = record { fits = c.requires.fits; begins = c.require
 
 pub unreachable-requires : goal.unreachable-requires
 unreachable-requires g c =
-    let x = pure.member (spots_of g.A.Mark.span_from c.args.base (member_of c.args.member.now)) in
-    let z = c.requires.at.1.0 in
-    none-some z (c.in_ok-reached.ensures.none (sym c.in-None.is) ∙ piece_leads x c.requires.at.0 c.args.path.now.steps.items z c.requires.at.1.1)
+    let found = some_at g.A.Mark.span_from (member_of c.args.member.now) c.args.base c.args.path.now.steps.items c.requires.at in
+    none-some found.to (c.in_ok-reached.ensures.none (sym c.in-None.is) ∙ found.leads)
 
 pub count_found-requires : goal.count_found-requires
 count_found-requires g c =

@@ -22,6 +22,7 @@ use Rattle.jr_piece_sites.proofs.Descents.{through}
 use Rattle.jr_piece_sites.proofs.Fitting.{member_own}
 use Rattle.jr_piece_sites.proofs.Growths.{if_ok_then}
 use Rattle.jr_piece_sites.proofs.Leading as leading
+use Rattle.jr_piece_sites.proofs.SpottedPaths as spotted_path
 use Rattle.jr_piece_sites.proofs.Standings.{expression_has, within_has}
 use Rattle.jr_piece_sites.proofs.WayPaths as way_path
 use Rattle.jr_piece_sites.proofs.WaysDown.{stmt_counts}
@@ -49,7 +50,7 @@ returns-clause-of_statement g c o numbers z there k super_at =
     let path = c.args.path.now.steps.items in
     let X = known_of G o in
     let w = λ (q : Given). member_route.member T super_at base k m q o in
-    let y = leading.stmt_leads whole c.requires.at.0 path z there in
+    let y = leading.stmt_leads whole (spotted_path.owner T m base c.requires.at.0) path z there in
     let at = member_within X z path (λ _. k) (λ _. place G (member_route.called_at T super_at base m)) (spots_of T base m) y in
     subst (λ (q : Given). IfOk c.range_at.result (λ r. HasRange (sites_of (w q)) (sites_of (stmt_way (known_of q o) z)) r.from r.to)) same
     (if_ok_then c.range_at.result (λ r h. within_has (stmt_way X z) (w G) (before X whole path) r.from r.to at h.0 h.1) (c.range_at.ensures o numbers (pure.stmt z) y))
@@ -69,7 +70,7 @@ returns-clause-of_expression g c o numbers outer rest is s there e way goes eval
     let X = known_of G o in
     let w = λ (q : Given). member_route.member T super_at base k m q o in
     let back = subst (λ (q : Given). StmtEvaluated (known_of q o) way) (sym same) evaluated in
-    let y = leading.stmt_leads whole c.requires.at.0 outer s there in
+    let y = leading.stmt_leads whole (spotted_path.owner T m base c.requires.at.0) outer s there in
     let at = member_within X s outer (λ _. k) (λ _. place G (member_route.called_at T super_at base m)) (spots_of T base m) y in
     let on = λ (p : Option (Piece Spot)). option_and_then (λ (x : Piece Spot). piece_at x rest) p in
     let found = ap (piece_at whole) is ∙ through outer rest whole ∙ ap on y ∙ ap (piece_at (pure.stmt s)) (sym goes) ∙ way_path.stmt_leads s way in
