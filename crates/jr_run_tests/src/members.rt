@@ -42,7 +42,7 @@ fn unit_in(rt: &impl Abort, alloc: Global, text: &Text) -> Unit<Span>
 }
 
 // The units of a program of one file.
-fn units_in(rt: &impl Abort, alloc: Global, text: &Text) -> Vec<Unit<Span>>
+pub(crate) fn units_in(rt: &impl Abort, alloc: Global, text: &Text) -> Vec<Unit<Span>>
     ensures file { (items : List pure.Item)
         × IsFile (map unit_of result.items) 0 text.now items }
     ensures heads { UnitsHeads (map unit_of result.items) }
@@ -54,7 +54,7 @@ fn units_in(rt: &impl Abort, alloc: Global, text: &Text) -> Vec<Unit<Span>>
     units
 }
 
-fn table_in(rt: &impl Abort, alloc: Global, units: &[Unit<Span>]) -> Table
+pub(crate) fn table_in(rt: &impl Abort, alloc: Global, units: &[Unit<Span>]) -> Table
     requires heads { UnitsHeads (map unit_of units.now) }
     requires one { length units.now ≡ 1 }
     ensures { AreProgramRows (declarations_of begins (map unit_of units.now)) result }
@@ -89,7 +89,7 @@ fn is_method(part: &PartRef<'_, Span>) -> bool
 }
 
 // The first of the members that is a method.
-fn first_method<'m, 'a>(
+pub(crate) fn first_method<'m, 'a>(
     members: &'m [WrittenMember<'a, Span>],
 ) -> Option<&'m WrittenMember<'a, Span>>
     ensures { IfSome result (λ w. Contains members.now w.now × ((items : List pure.Item)
