@@ -7,7 +7,7 @@
 -- where they lead on the tree; `Putting`: statements among the parts of a piece.
 -- `WaysDown`: what stands in front on a path is what is evaluated before; `Withins`: statements
 -- stand in pieces behind it; `WayPaths`: the path of a way leads where it does; `Standings`: so
--- pieces have ranges of sites.
+-- pieces have ranges of sites. `Reaching`: what reads by paths find, for callers.
 mod Places
 mod PartRows
 mod Spotting
@@ -26,3 +26,4 @@ mod WaysDown
 mod Withins
 mod WayPaths
 mod Standings
+pub mod Reaching
