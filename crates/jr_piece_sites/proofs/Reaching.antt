@@ -1,6 +1,7 @@
 -- What a read by a path finds in a member, is what paths of this crate lead to: for who meets its
 -- conditions.
-use Rattle.std.proofs.Common.{◌≡◌, ℕ, zero, suc, ◌-◌, ◌≤◌, List, [], ◌∷◌, length, take, drop, Some, refl, sym, ap, arith, ◌∙◌}
+use Rattle.std.proofs.Common.{◌≡◌, ℕ, zero, suc, ◌-◌, ◌≤◌, List, [], ◌∷◌, length, take, drop, Option, Some, None, option_map, refl, sym, ap, arith, ◌∙◌}
+use Rattle.std.specs.Prelude.{IsTrue, is_some}
 use Rattle.std.proofs.lemmas.List.{length-drop, length-take-le}
 use Rattle.jr_ast.specs.declared.stmts.Stmt.{Stmt}
 use Rattle.jr_ast.specs.MemberTree as declared
@@ -16,22 +17,22 @@ use Rattle.jr_piece_sites.proofs.Leading.{exp_leads, node_leads, stmt_leads}
 -- ---- statements of a list
 
 module _ {A : Type 0} where
-  record Some_of (l : List (nodes.Node A)) : Type 0 where
+  record AreStmts (l : List (nodes.Node A)) : Type 0 where
     list : statement.Stmts A
     is : l ≡ nodes.stmts list
 
-  front : (n : ℕ) (ss : statement.Stmts A) → Some_of (take n (nodes.stmts ss))
+  front : (n : ℕ) (ss : statement.Stmts A) → AreStmts (take n (nodes.stmts ss))
   front zero ss = record { list = statement.end; is = refl }
   front (suc n) statement.end = record { list = statement.end; is = refl }
   front (suc n) (statement.more s ss) =
       let r = front n ss in record { list = statement.more s r.list; is = ap (λ l. nodes.stmt s ∷ l) r.is }
 
-  back : (n : ℕ) (ss : statement.Stmts A) → Some_of (drop n (nodes.stmts ss))
+  back : (n : ℕ) (ss : statement.Stmts A) → AreStmts (drop n (nodes.stmts ss))
   back zero ss = record { list = ss; is = refl }
   back (suc n) statement.end = record { list = statement.end; is = refl }
   back (suc n) (statement.more s ss) = back n ss
 
-  between : (from n : ℕ) (ss : statement.Stmts A) → Some_of (take n (drop from (nodes.stmts ss)))
+  between : (from n : ℕ) (ss : statement.Stmts A) → AreStmts (take n (drop from (nodes.stmts ss)))
   between from n ss =
       let b = back from ss in
       let f = front n b.list in
@@ -50,6 +51,10 @@ module _ {A : Type 0} (m : declared.Member A) (own : IsOwner m) (path : List ℕ
 
   pub at_stmt : (s : statement.Stmt A) → nodes.stmt_at (nodes.member m) path ≡ Some s → Leads m path
   at_stmt s h = (own, piece.stmt s, node_leads path (piece.member m) (piece.stmt s) (stmt_leads (piece.member m) own path s h))
+
+  pub some_stmt : {X : Type 0} (f : X → statement.Stmt A) (r : Option X) → option_map f r ≡ nodes.stmt_at (nodes.member m) path → IsTrue (is_some r) → Leads m path
+  some_stmt f None e h = absurd h
+  some_stmt f (Some x) e h = at_stmt (f x) (sym e)
 
   pub in_block : (mark : A) (body : statement.Stmts A) (from to : ℕ) → nodes.stmt_at (nodes.member m) path ≡ Some (statement.block mark body) → from ≤ to → to ≤ length (nodes.stmts body) → LeadsToParts m path from to
   unfolding nodes.stmt_children

@@ -1,13 +1,15 @@
 -- A piece that stands in a whole has a range of its sites.
 use Rattle.std.proofs.Common.{◌≡◌, ℕ, ◌+◌, List, [], ◌∷◌, ◌++◌, length, append_assoc, length-append, refl, sym, ap, ◌∙◌, arith}
 use Rattle.std.proofs.lemmas.List.{append-nil}
-use Rattle.jr_ast.specs.Tree as tree
 use Rattle.jr_ast.specs.StatementTree as statement
-use Rattle.jr_code.specs.RunKeys.{RunKeys}
+use Rattle.jr_ast.specs.Tree as tree
+use Rattle.jr_table.specs.Keys.{ClassKey, FieldKey, MethodKey, CtorKey}
+use Rattle.jr_code.specs.RunKeys.{RunKeys, Place}
 use Rattle.jr_cover.specs.Sites.{Known, Site, exp_way, stmt_way}
 use Rattle.jr_cover.specs.Ways.{Way, size, sites_of}
 use Rattle.jr_effect.specs.Within.{Within}
-use Rattle.jr_effect.proofs.Standing.{stands, size_is}
+use Rattle.jr_effect.proofs.Standing as standing
+use Rattle.jr_effect.proofs.Standing.{size_is}
 use Rattle.jr_pieces.specs.Before.{StandsBehind, StmtEvaluated, stmt_before}
 use Rattle.jr_pieces.specs.Ways.{StmtWay, first}
 use Rattle.jr_pieces.proofs.InFront.{what_comes_before_stands_in_front}
@@ -25,7 +27,7 @@ module _ {S : Type 0} where
 
   pub within_has : (piece w : Way S) (k from to : ℕ) → Within piece w k → from ≡ k → to ≡ from + size piece → HasRange (sites_of w) (sites_of piece) from to
   within_has piece w k from to at begin end =
-      made (sites_of w) (sites_of piece) k from to begin (end ∙ ap (λ (n : ℕ). from + n) (sym (size_is piece))) (stands piece w k at)
+      made (sites_of w) (sites_of piece) k from to begin (end ∙ ap (λ (n : ℕ). from + n) (sym (size_is piece))) (standing.stands piece w k at)
 
   -- a piece of a piece
   inner : (all whole piece front : List S) (k from to : ℕ) → HasRange all whole k (k + length whole) → (rest : List S) → whole ++ [] ≡ front ++ (piece ++ rest) → from ≡ k + length front → to ≡ from + length piece → HasRange all piece from to
@@ -47,7 +49,7 @@ module _ {A : Type 0} (X : Known RunKeys A) {e : tree.Exp A} where
       → from ≡ k + length (stmt_before X d) → to ≡ from + size (exp_way X e) → HasRange (sites_of w) (sites_of (exp_way X e)) from to
   expression_has s d evaluated w k from to at begin end =
       let front : StandsBehind (stmt_before X d) (sites_of (exp_way X e)) (sites_of (stmt_way X s) ++ []) =
-      what_comes_before_stands_in_front X e (statement.more s statement.end) (first s statement.end d) evaluated in
+      what_comes_before_stands_in_front {C = ClassKey} {F = FieldKey} {M = MethodKey} {N = CtorKey} {L = Place} {A = A} X e (statement.more s statement.end) (first s statement.end d) evaluated in
       let outer = within_has (stmt_way X s) w k k (k + size (stmt_way X s)) at refl refl in
       inner (sites_of w) (sites_of (stmt_way X s)) (sites_of (exp_way X e)) (stmt_before X d) k from to
       (record { before = outer.before; after = outer.after; stands = outer.stands; begins = outer.begins; ends = refl })

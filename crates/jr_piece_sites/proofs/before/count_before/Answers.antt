@@ -1,32 +1,14 @@
-use Rattle.std.proofs.Common.{◌≡◌, ℕ, zero, suc, pred, ◌+◌, ◌-◌, List, [], ◌∷◌, ◌++◌, length, take, map, Option, Some, None, option_map, refl, ap, sym, subst, ◌∙◌, arith}
-use Rattle.std.specs.Prelude.{IfOk, IfSome}
+use Rattle.std.proofs.Common.{◌≡◌, [], ◌++◌, Option, refl, ap, sym, subst, ◌∙◌}
+use Rattle.std.specs.Prelude.{IfSome}
 use Rattle.std.proofs.lemmas.Option.{none-some, same_Some}
-use Rattle.jr_text.specs.declared.spans.Span.{Span}
-use Rattle.jr_ast.specs.Tree as tree
-use Rattle.jr_ast.specs.StatementTree as statement
-use Rattle.jr_ast.specs.Nodes as nodes
-use Rattle.jr_ast.specs.Marks.{member_mark}
-use Rattle.jr_ast.specs.View.{member_of, expr_of, stmt_of}
-use Rattle.jr_ast.proofs.Rows.{member_mark_is}
-use Rattle.jr_table.specs.KeyView.{member_key_of}
-use Rattle.jr_cover.specs.Spots.{Spot, spot_exp}
-use Rattle.jr_cover.specs.Ways.{sites_of}
-use Rattle.jr_cover.specs.Sites.{exp_way, stmt_way}
-use Rattle.jr_sites.specs.SiteView.{placed_of}
-use Rattle.jr_cfg.specs.Placed.{placed}
-use Rattle.jr_cfg.specs.MemberRoutes.{FitsSites, NumbersMember, known}
-use Rattle.jr_cfg.specs.MemberRoutes as member_route
-use Rattle.jr_expr_sites.specs.KnownFacts.{Given, Others, known_of, place}
-use Rattle.jr_expr_sites.specs.Routes.{begins_by, ends_by}
-use Rattle.jr_expr_sites.specs.Routes as route
-use Rattle.jr_expr_sites.specs.StepView.{given, steps_in}
-use Rattle.jr_expr_sites.specs.Steps.{sites_in}
-use Rattle.jr_piece_sites.specs.declared.pieces.Piece as raw
-use Rattle.jr_piece_sites.specs.Leads.{spots_of, AreParts, AllStmts}
+use Rattle.jr_ast.specs.View.{member_of}
+use Rattle.jr_cover.specs.Spots.{Spot}
+use Rattle.jr_expr_sites.specs.KnownFacts.{known_of}
+use Rattle.jr_expr_sites.specs.StepView.{given}
+use Rattle.jr_piece_sites.specs.Leads.{spots_of}
 use Rattle.jr_piece_sites.specs.Pieces as pure
-use Rattle.jr_piece_sites.specs.Pieces.{Piece, FitsPiece, NumbersPiece, StartsAt, spotted, piece_at, part_of, mark_of, first_number}
+use Rattle.jr_piece_sites.specs.Pieces.{Piece, spotted, piece_at}
 use Rattle.jr_piece_sites.specs.PieceView.{piece_of}
-use Rattle.jr_piece_sites.proofs.Fitting.{member_own}
 use Rattle.jr_piece_sites.proofs.SpottedPaths as spotted_path
 use Rattle.jr_piece_sites.proofs.Descents as down
 use Rattle.jr_piece_sites.proofs.Growths as growth
@@ -47,20 +29,12 @@ descend-requires g c =
     let m = member_of c.args.member.now in
     let base = c.args.base in
     let outer = c.args.outer.now.steps.items in
-    let path = c.args.path.now.steps.items in
-    let x = pure.member (spots_of T base m) in
-    let found = spotted_path.some_at T m base (outer ++ path) c.requires.at in
-    let z = found.to in
-    let leads = sym (down.through outer path x) ∙ found.leads in
-    let on = λ (o : Option (Piece Spot)). option_and_then (λ (y : Piece Spot). piece_at y path) o in
     let first = subst (λ r. IfSome r (λ f. Descended T F G 0 base [] (pure.member m) outer [] f.number f.base (piece_of f.of) outer c.new-passed.result.items c.reach-reached.new.out.items)) c.in-Some.is c.in_ok-reached.ensures.found in
     record { fits = first.fits; begins = first.start }
 
 pub unreachable-requires : goal.unreachable-requires
 unreachable-requires g c =
     let T = g.A.Mark.span_from in
-    let F = g.A.Mark.fits_at in
-    let G = given g.F.Facts.decls g.F.Facts.types c.args.here.now in
     let m = member_of c.args.member.now in
     let base = c.args.base in
     let outer = c.args.outer.now.steps.items in

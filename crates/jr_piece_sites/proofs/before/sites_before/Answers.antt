@@ -1,31 +1,18 @@
-use Rattle.std.proofs.Common.{◌≡◌, ℕ, zero, suc, pred, ◌+◌, ◌-◌, List, [], ◌∷◌, ◌++◌, length, take, map, Option, Some, None, option_map, refl, ap, sym, subst, ◌∙◌, arith}
-use Rattle.std.specs.Prelude.{IfOk, IfSome}
-use Rattle.std.proofs.lemmas.Option.{none-some, same_Some}
+use Rattle.std.proofs.Common.{◌≡◌, ℕ, length, Some, ap, sym, subst, ◌∙◌}
+use Rattle.std.specs.Prelude.{IfOk}
 use Rattle.jr_text.specs.declared.spans.Span.{Span}
-use Rattle.jr_ast.specs.Tree as tree
-use Rattle.jr_ast.specs.StatementTree as statement
-use Rattle.jr_ast.specs.Nodes as nodes
 use Rattle.jr_ast.specs.Marks.{member_mark}
-use Rattle.jr_ast.specs.View.{member_of, expr_of, stmt_of}
+use Rattle.jr_ast.specs.View.{member_of}
 use Rattle.jr_ast.proofs.Rows.{member_mark_is}
 use Rattle.jr_table.specs.KeyView.{member_key_of}
-use Rattle.jr_cover.specs.Spots.{Spot, spot_exp}
-use Rattle.jr_cover.specs.Ways.{sites_of}
-use Rattle.jr_cover.specs.Sites.{exp_way, stmt_way}
-use Rattle.jr_sites.specs.SiteView.{placed_of}
-use Rattle.jr_cfg.specs.Placed.{placed}
-use Rattle.jr_cfg.specs.MemberRoutes.{FitsSites, NumbersMember, known}
+use Rattle.jr_cover.specs.Sites.{stmt_way}
+use Rattle.jr_cfg.specs.MemberRoutes.{known}
 use Rattle.jr_cfg.specs.MemberRoutes as member_route
-use Rattle.jr_expr_sites.specs.KnownFacts.{Given, Others, known_of, place}
-use Rattle.jr_expr_sites.specs.Routes.{begins_by, ends_by}
-use Rattle.jr_expr_sites.specs.Routes as route
-use Rattle.jr_expr_sites.specs.StepView.{given, steps_in}
-use Rattle.jr_expr_sites.specs.Steps.{sites_in}
-use Rattle.jr_piece_sites.specs.declared.pieces.Piece as raw
-use Rattle.jr_piece_sites.specs.Leads.{spots_of, AreParts, AllStmts}
+use Rattle.jr_expr_sites.specs.KnownFacts.{Given, known_of, place}
+use Rattle.jr_expr_sites.specs.Routes.{begins_by}
+use Rattle.jr_piece_sites.specs.Leads.{spots_of}
 use Rattle.jr_piece_sites.specs.Pieces as pure
-use Rattle.jr_piece_sites.specs.Pieces.{Piece, FitsPiece, NumbersPiece, StartsAt, spotted, piece_at, part_of, mark_of, first_number}
-use Rattle.jr_piece_sites.specs.PieceView.{piece_of}
+use Rattle.jr_piece_sites.specs.Pieces.{piece_at}
 use Rattle.jr_piece_sites.proofs.Fitting.{member_own}
 use Rattle.jr_piece_sites.proofs.Leading as leading
 use Rattle.jr_piece_sites.proofs.SpottedPaths as spotted_path
@@ -48,7 +35,6 @@ count_before-requires g c = record { fits = c.requires.fits; start = ap (λ (z :
 pub returns-clause-exact : goal.returns-clause-exact
 returns-clause-exact g c o numbers x at =
     let T = g.A.Mark.span_from in
-    let F = g.A.Mark.fits_at in
     let m = member_of c.args.member.now in
     let base = c.args.base in
     let facts = c.args.facts.now in
@@ -62,7 +48,6 @@ returns-clause-exact g c o numbers x at =
 pub returns-clause-of_expression : goal.returns-clause-of_expression
 returns-clause-of_expression g c o numbers s at e way is =
     let T = g.A.Mark.span_from in
-    let F = g.A.Mark.fits_at in
     let m = member_of c.args.member.now in
     let base = c.args.base in
     let facts = c.args.facts.now in
@@ -70,7 +55,6 @@ returns-clause-of_expression g c o numbers s at e way is =
     let G : Given = record { rows = c.args.table.now; member = member_key_of c.member.result.now; start = c.span.result.from; decls = g.F.Facts.decls facts; types = g.F.Facts.types facts; never_null = c.args.never_null.now } in
     let start : c.span.result.from ≡ begins_by T (member_mark m) base = ap (λ (z : Span). z.from) c.span.ensures ∙ ap (λ (x : g.row.A.Denot). begins_by T x base) (sym (member_mark_is c.args.member.now)) in
     let same : G ≡ K = (λ i. record { rows = c.args.table.now; member = c.member.ensures i; start = start i; decls = g.F.Facts.decls facts; types = g.F.Facts.types facts; never_null = c.args.never_null.now }) in
-    let path = c.args.path.now.steps.items in
     let x = leading.stmt_leads (pure.member (spots_of T base m)) (spotted_path.owner T m base c.requires.at.0) c.args.outer.now.steps.items s at in
     subst (λ (q : Given). IfOk c.count_before.result (λ n. n ≡ length (stmt_before (known_of q o) way))) same
     (growth.if_ok_then c.count_before.result (λ n h. h ∙ ap (before (known_of G o) (pure.stmt s)) (sym is) ∙ stmt_counts (known_of G o) s way) (c.count_before.ensures o numbers (pure.stmt s) x))
@@ -78,7 +62,6 @@ returns-clause-of_expression g c o numbers s at e way is =
 pub returns-clause-of_statement : goal.returns-clause-of_statement
 returns-clause-of_statement g c o numbers s at z there =
     let T = g.A.Mark.span_from in
-    let F = g.A.Mark.fits_at in
     let m = member_of c.args.member.now in
     let base = c.args.base in
     let facts = c.args.facts.now in
@@ -95,7 +78,6 @@ returns-clause-of_statement g c o numbers s at z there =
 pub returns-clause-in_member : goal.returns-clause-in_member
 returns-clause-in_member g c o numbers none z there k super_at =
     let T = g.A.Mark.span_from in
-    let F = g.A.Mark.fits_at in
     let m = member_of c.args.member.now in
     let base = c.args.base in
     let facts = c.args.facts.now in

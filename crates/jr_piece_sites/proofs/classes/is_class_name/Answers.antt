@@ -18,7 +18,6 @@ span-at-requires g c = own_fits (begins_by g.A.Mark.span_from) g.A.Mark.fits_at 
 
 pub span-requires : goal.span-requires
 span-requires g c =
-    let G = given g.F.Facts.decls g.F.Facts.types c.args.here.now in
     let T = g.A.Mark.span_from in
     let base = c.args.base in
     let e = expr_of c.args.of.now in
@@ -41,7 +40,6 @@ returns-in-Named g c o path =
 
 pub span-requires-in-Dotted : goal.span-requires-in-Dotted
 span-requires-in-Dotted g c =
-    let G = given g.F.Facts.decls g.F.Facts.types c.args.here.now in
     let T = g.A.Mark.span_from in
     let base = c.args.base in
     let e = expr_of c.args.of.now in

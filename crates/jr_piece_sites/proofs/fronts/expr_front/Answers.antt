@@ -1,25 +1,20 @@
-use Rattle.std.proofs.Common.{◌≡◌, ℕ, zero, suc, pred, ◌+◌, ◌-◌, List, [], ◌∷◌, ◌++◌, length, take, map, Option, Some, None, option_map, refl, ap, sym, subst, ◌∙◌, arith}
+use Rattle.std.proofs.Common.{◌≡◌, ℕ, pred, ◌+◌, [], ◌∷◌, ◌++◌, ap, sym, subst, ◌∙◌}
 use Rattle.jr_text.specs.declared.spans.Span.{Span}
-use Rattle.jr_ast.specs.declared.exprs.Expr.{Expr}
-use Rattle.jr_ast.specs.declared.stmts.Stmt.{Stmt}
 use Rattle.jr_ast.specs.Tree as tree
 use Rattle.std.proofs.Common.{false}
-use Rattle.jr_ast.specs.Marks.{exp_mark, stmt_mark}
-use Rattle.jr_ast.specs.View.{expr_of, exprs_of, stmt_of, stmts_of}
-use Rattle.jr_ast.proofs.Rows.{expr_mark_is, stmt_mark_is}
-use Rattle.jr_bind_expr.specs.Fits.{FitsExp, FitsExps, FitsTarget, FitsStmt, FitsStmts}
+use Rattle.jr_ast.specs.Marks.{exp_mark}
+use Rattle.jr_ast.specs.View.{expr_of, exprs_of}
+use Rattle.jr_ast.proofs.Rows.{expr_mark_is}
+use Rattle.jr_bind_expr.specs.Fits.{FitsExp, FitsExps, FitsTarget}
 use Rattle.jr_bind_expr.proofs.Steps.{own_fits}
-use Rattle.jr_cover.specs.Sites.{unless, exps_way, stmts_way}
-use Rattle.jr_cover.specs.Spots.{spot_exp, spot_exps, spot_stmt, spot_stmts}
+use Rattle.jr_cover.specs.Spots.{spot_exps}
 use Rattle.jr_cover.specs.Ways.{size}
 use Rattle.jr_expr_sites.specs.StepView.{given}
 use Rattle.jr_expr_sites.specs.KnownFacts.{Others, known_of}
 use Rattle.jr_expr_sites.specs.Routes.{begins_by, ends_by, spots}
 use Rattle.jr_expr_sites.specs.Routes as route
 use Rattle.jr_expr_sites.proofs.Walking.{on_ok_then}
-use Rattle.jr_cfg.specs.StatementRoutes as list
-use Rattle.jr_piece_sites.specs.Fronts.{one_if, behind_first, in_front_of_second, exps_front, exp_front, stmts_front}
-use Rattle.jr_piece_sites.specs.Growth.{count, Grows, GrownTo}
+use Rattle.jr_piece_sites.specs.Fronts.{behind_first, exps_front, exp_front}
 use Rattle.jr_piece_sites.specs.Parts as parts
 use Rattle.jr_piece_sites.specs.Parts.{Parts, parts_of}
 use Rattle.jr_piece_sites.specs.PartsView.{parts_view, between_of}
@@ -33,7 +28,6 @@ span-at-requires g c = own_fits (begins_by g.A.Mark.span_from) g.A.Mark.fits_at 
 pub returns-in-Leaf : goal.returns-in-Leaf
 returns-in-Leaf g c =
     let T = g.A.Mark.span_from in
-    let F = g.A.Mark.fits_at in
     let G = given g.F.Facts.decls g.F.Facts.types c.args.here.now in
     let path = c.args.path.now.steps.items in
     let old = c.args.out.now.items in
@@ -48,7 +42,6 @@ returns-in-Leaf g c =
 pub returns-in-Named : goal.returns-in-Named
 returns-in-Named g c =
     let T = g.A.Mark.span_from in
-    let F = g.A.Mark.fits_at in
     let G = given g.F.Facts.decls g.F.Facts.types c.args.here.now in
     let path = c.args.path.now.steps.items in
     let old = c.args.out.now.items in
@@ -63,7 +56,6 @@ returns-in-Named g c =
 pub returns-in-OnSuper : goal.returns-in-OnSuper
 returns-in-OnSuper g c =
     let T = g.A.Mark.span_from in
-    let F = g.A.Mark.fits_at in
     let G = given g.F.Facts.decls g.F.Facts.types c.args.here.now in
     let path = c.args.path.now.steps.items in
     let old = c.args.out.now.items in
@@ -78,7 +70,6 @@ returns-in-OnSuper g c =
 pub returns-in-Dotted : goal.returns-in-Dotted
 returns-in-Dotted g c =
     let T = g.A.Mark.span_from in
-    let F = g.A.Mark.fits_at in
     let G = given g.F.Facts.decls g.F.Facts.types c.args.here.now in
     let path = c.args.path.now.steps.items in
     let old = c.args.out.now.items in
@@ -93,7 +84,6 @@ returns-in-Dotted g c =
 pub returns-in-One : goal.returns-in-One
 returns-in-One g c =
     let T = g.A.Mark.span_from in
-    let F = g.A.Mark.fits_at in
     let G = given g.F.Facts.decls g.F.Facts.types c.args.here.now in
     let path = c.args.path.now.steps.items in
     let old = c.args.out.now.items in
@@ -109,21 +99,16 @@ pub put_two_front-requires : goal.put_two_front-requires
 put_two_front-requires g c =
     let T = g.A.Mark.span_from in
     let F = g.A.Mark.fits_at in
-    let G = given g.F.Facts.decls g.F.Facts.types c.args.here.now in
-    let path = c.args.path.now.steps.items in
-    let old = c.args.out.now.items in
     let base = c.args.base in
     let e = expr_of c.args.of.now in
     let at = c.span-at.result.from in
     let start : at ≡ begins_by T (exp_mark e) base = ap (λ (z : Span). z.from) c.span-at.ensures ∙ ap (λ (k : g.row.A.Denot). begins_by T k base) (sym (expr_mark_is c.args.of.now)) in
     let is = sym c.parts_of.ensures ∙ ap parts_view c.in-Two.is in
-    let whole = λ (o : Others). exp_front (known_of G o) (parts_of (spots T path base e)) c.args.number in
     record { fits = subst (λ (k : ℕ). kind.FitsParts T F k (parts.two (between_of c.in-Two.between) (expr_of c.in-Two.first.now) (expr_of c.in-Two.field-2.now))) (sym start) (subst (λ (p : Parts g.row.A.Denot). kind.FitsParts T F (begins_by T (exp_mark e) base) p) is (kind.parts_fit T F base e c.requires.fits)) }
 
 pub returns-in-Two : goal.returns-in-Two
 returns-in-Two g c =
     let T = g.A.Mark.span_from in
-    let F = g.A.Mark.fits_at in
     let G = given g.F.Facts.decls g.F.Facts.types c.args.here.now in
     let path = c.args.path.now.steps.items in
     let old = c.args.out.now.items in
@@ -140,21 +125,16 @@ pub put_row_front-requires : goal.put_row_front-requires
 put_row_front-requires g c =
     let T = g.A.Mark.span_from in
     let F = g.A.Mark.fits_at in
-    let G = given g.F.Facts.decls g.F.Facts.types c.args.here.now in
-    let path = c.args.path.now.steps.items in
-    let old = c.args.out.now.items in
     let base = c.args.base in
     let e = expr_of c.args.of.now in
     let at = c.span-at.result.from in
     let start : at ≡ begins_by T (exp_mark e) base = ap (λ (z : Span). z.from) c.span-at.ensures ∙ ap (λ (k : g.row.A.Denot). begins_by T k base) (sym (expr_mark_is c.args.of.now)) in
     let is = sym c.parts_of.ensures ∙ ap parts_view c.in-Row.is in
-    let whole = λ (o : Others). exp_front (known_of G o) (parts_of (spots T path base e)) c.args.number in
     record { fits = (subst (λ (k : ℕ). kind.FitsParts T F k (parts.row c.in-Row.is_created tree.no_target (exprs_of c.in-Row.args.now))) (sym start) (subst (λ (p : Parts g.row.A.Denot). kind.FitsParts T F (begins_by T (exp_mark e) base) p) is (kind.parts_fit T F base e c.requires.fits))).1 }
 
 pub returns-in-Row : goal.returns-in-Row
 returns-in-Row g c =
     let T = g.A.Mark.span_from in
-    let F = g.A.Mark.fits_at in
     let G = given g.F.Facts.decls g.F.Facts.types c.args.here.now in
     let path = c.args.path.now.steps.items in
     let old = c.args.out.now.items in
@@ -172,22 +152,17 @@ unfolding FitsExp FitsTarget FitsExps
 put_on_front-requires g c =
     let T = g.A.Mark.span_from in
     let F = g.A.Mark.fits_at in
-    let G = given g.F.Facts.decls g.F.Facts.types c.args.here.now in
-    let path = c.args.path.now.steps.items in
-    let old = c.args.out.now.items in
     let base = c.args.base in
     let e = expr_of c.args.of.now in
     let at = c.span-at.result.from in
     let start : at ≡ begins_by T (exp_mark e) base = ap (λ (z : Span). z.from) c.span-at.ensures ∙ ap (λ (k : g.row.A.Denot). begins_by T k base) (sym (expr_mark_is c.args.of.now)) in
     let is = sym c.parts_of.ensures ∙ ap parts_view c.in-On.is in
-    let whole = λ (o : Others). exp_front (known_of G o) (parts_of (spots T path base e)) c.args.number in
     let f = subst (λ (k : ℕ). kind.FitsParts T F k (parts.row false (tree.on (expr_of c.in-On.target.now)) (exprs_of c.in-On.args.now))) (sym start) (subst (λ (p : Parts g.row.A.Denot). kind.FitsParts T F (begins_by T (exp_mark e) base) p) is (kind.parts_fit T F base e c.requires.fits)) in
     record { fits = f.1; fits_target = f.0 }
 
 pub returns-in-On : goal.returns-in-On
 returns-in-On g c =
     let T = g.A.Mark.span_from in
-    let F = g.A.Mark.fits_at in
     let G = given g.F.Facts.decls g.F.Facts.types c.args.here.now in
     let path = c.args.path.now.steps.items in
     let old = c.args.out.now.items in

@@ -1,26 +1,17 @@
-use Rattle.std.proofs.Common.{◌≡◌, ℕ, zero, suc, pred, ◌+◌, ◌-◌, List, [], ◌∷◌, ◌++◌, length, take, map, Option, Some, None, option_map, refl, ap, sym, subst, ◌∙◌, arith}
+use Rattle.std.proofs.Common.{◌≡◌, ℕ, [], ◌∷◌, ◌++◌, ap, sym, subst, ◌∙◌}
 use Rattle.jr_text.specs.declared.spans.Span.{Span}
-use Rattle.jr_ast.specs.declared.exprs.Expr.{Expr}
-use Rattle.jr_ast.specs.declared.stmts.Stmt.{Stmt}
-use Rattle.jr_ast.specs.Marks.{exp_mark, stmt_mark}
-use Rattle.jr_ast.specs.View.{expr_of, exprs_of, stmt_of, stmts_of}
-use Rattle.jr_ast.proofs.Rows.{expr_mark_is, stmt_mark_is}
-use Rattle.jr_bind_expr.specs.Fits.{FitsExp, FitsExps, FitsTarget, FitsStmt, FitsStmts}
+use Rattle.jr_ast.specs.Marks.{exp_mark}
+use Rattle.jr_ast.specs.View.{expr_of}
+use Rattle.jr_ast.proofs.Rows.{expr_mark_is}
+use Rattle.jr_bind_expr.specs.Fits.{FitsExp}
 use Rattle.jr_bind_expr.proofs.Steps.{own_fits}
-use Rattle.jr_cover.specs.Sites.{unless, exps_way, stmts_way}
-use Rattle.jr_cover.specs.Spots.{spot_exp, spot_exps, spot_stmt, spot_stmts}
 use Rattle.jr_cover.specs.Ways.{size}
 use Rattle.jr_expr_sites.specs.StepView.{given}
-use Rattle.jr_expr_sites.specs.KnownFacts.{Others, known_of}
-use Rattle.jr_expr_sites.specs.Routes.{begins_by, ends_by, spots}
+use Rattle.jr_expr_sites.specs.Routes.{begins_by}
 use Rattle.jr_expr_sites.specs.Routes as route
 use Rattle.jr_expr_sites.proofs.Walking.{on_ok_then}
-use Rattle.jr_cfg.specs.StatementRoutes as list
-use Rattle.jr_piece_sites.specs.Fronts.{one_if, behind_first, in_front_of_second, exps_front, exp_front, stmts_front}
-use Rattle.jr_piece_sites.specs.Growth.{count, Grows, GrownTo}
-use Rattle.jr_piece_sites.specs.Parts as parts
 use Rattle.jr_piece_sites.specs.Parts.{Parts, parts_of}
-use Rattle.jr_piece_sites.specs.PartsView.{parts_view, between_of}
+use Rattle.jr_piece_sites.specs.PartsView.{parts_view}
 use Rattle.jr_piece_sites.proofs.Counting as counting
 use Rattle.jr_piece_sites.proofs.ExprKinds as kind
 use Rattle.jr_piece_sites.proofs.fronts.put_operand.Goals as goal
@@ -32,9 +23,6 @@ pub put_left-requires : goal.put_left-requires
 put_left-requires g c =
     let T = g.A.Mark.span_from in
     let F = g.A.Mark.fits_at in
-    let G = given g.F.Facts.decls g.F.Facts.types c.args.here.now in
-    let path = c.args.path.now.steps.items in
-    let old = c.args.out.now.items in
     let e = expr_of c.args.to.now in
     let parts = sym c.parts_of.ensures ∙ ap parts_view c.in-Dotted.is in
     let start : c.span.result.from ≡ begins_by T (exp_mark e) c.args.at = ap (λ (z : Span). z.from) c.span.ensures ∙ ap (λ (k : g.row.A.Denot). begins_by T k c.args.at) (sym (expr_mark_is c.args.to.now)) in
@@ -43,7 +31,6 @@ put_left-requires g c =
 pub returns-in_ok-inner-in-Dotted : goal.returns-in_ok-inner-in-Dotted
 returns-in_ok-inner-in-Dotted g c =
     let T = g.A.Mark.span_from in
-    let F = g.A.Mark.fits_at in
     let G = given g.F.Facts.decls g.F.Facts.types c.args.here.now in
     let path = c.args.path.now.steps.items in
     let old = c.args.out.now.items in
@@ -58,7 +45,6 @@ returns-in_ok-inner-in-Dotted g c =
 pub returns-in-Leaf : goal.returns-in-Leaf
 returns-in-Leaf g c =
     let T = g.A.Mark.span_from in
-    let F = g.A.Mark.fits_at in
     let G = given g.F.Facts.decls g.F.Facts.types c.args.here.now in
     let path = c.args.path.now.steps.items in
     let old = c.args.out.now.items in
@@ -70,7 +56,6 @@ returns-in-Leaf g c =
 pub returns-in-Named : goal.returns-in-Named
 returns-in-Named g c =
     let T = g.A.Mark.span_from in
-    let F = g.A.Mark.fits_at in
     let G = given g.F.Facts.decls g.F.Facts.types c.args.here.now in
     let path = c.args.path.now.steps.items in
     let old = c.args.out.now.items in
@@ -82,7 +67,6 @@ returns-in-Named g c =
 pub returns-in-OnSuper : goal.returns-in-OnSuper
 returns-in-OnSuper g c =
     let T = g.A.Mark.span_from in
-    let F = g.A.Mark.fits_at in
     let G = given g.F.Facts.decls g.F.Facts.types c.args.here.now in
     let path = c.args.path.now.steps.items in
     let old = c.args.out.now.items in
@@ -94,7 +78,6 @@ returns-in-OnSuper g c =
 pub returns-in-One : goal.returns-in-One
 returns-in-One g c =
     let T = g.A.Mark.span_from in
-    let F = g.A.Mark.fits_at in
     let G = given g.F.Facts.decls g.F.Facts.types c.args.here.now in
     let path = c.args.path.now.steps.items in
     let old = c.args.out.now.items in
@@ -106,7 +89,6 @@ returns-in-One g c =
 pub returns-in-Two : goal.returns-in-Two
 returns-in-Two g c =
     let T = g.A.Mark.span_from in
-    let F = g.A.Mark.fits_at in
     let G = given g.F.Facts.decls g.F.Facts.types c.args.here.now in
     let path = c.args.path.now.steps.items in
     let old = c.args.out.now.items in
@@ -118,7 +100,6 @@ returns-in-Two g c =
 pub returns-in-Row : goal.returns-in-Row
 returns-in-Row g c =
     let T = g.A.Mark.span_from in
-    let F = g.A.Mark.fits_at in
     let G = given g.F.Facts.decls g.F.Facts.types c.args.here.now in
     let path = c.args.path.now.steps.items in
     let old = c.args.out.now.items in
@@ -130,7 +111,6 @@ returns-in-Row g c =
 pub returns-in-On : goal.returns-in-On
 returns-in-On g c =
     let T = g.A.Mark.span_from in
-    let F = g.A.Mark.fits_at in
     let G = given g.F.Facts.decls g.F.Facts.types c.args.here.now in
     let path = c.args.path.now.steps.items in
     let old = c.args.out.now.items in

@@ -1,36 +1,23 @@
-use Rattle.std.proofs.Common.{◌≡◌, ℕ, zero, suc, pred, ◌+◌, ◌-◌, List, [], ◌∷◌, ◌++◌, length, take, map, Option, Some, None, option_map, refl, ap, sym, subst, ◌∙◌, arith}
-use Rattle.std.specs.Prelude.{IfOk, IfSome}
+use Rattle.std.proofs.Common.{◌≡◌, ℕ, List, Some, option_map, ap, sym, subst, ◌∙◌}
+use Rattle.std.specs.Prelude.{IfOk}
 use Rattle.std.proofs.lemmas.Option.{none-some, same_Some}
 use Rattle.jr_text.specs.declared.spans.Span.{Span}
 use Rattle.jr_ast.specs.Tree as tree
-use Rattle.jr_ast.specs.StatementTree as statement
-use Rattle.jr_ast.specs.Nodes as nodes
 use Rattle.jr_ast.specs.Marks.{member_mark}
-use Rattle.jr_ast.specs.View.{member_of, expr_of, stmt_of}
+use Rattle.jr_ast.specs.View.{member_of, expr_of}
 use Rattle.jr_ast.proofs.Rows.{member_mark_is}
 use Rattle.jr_table.specs.KeyView.{member_key_of}
 use Rattle.jr_cover.specs.Spots.{Spot, spot_exp}
-use Rattle.jr_cover.specs.Ways.{sites_of}
-use Rattle.jr_cover.specs.Sites.{exp_way, stmt_way}
-use Rattle.jr_sites.specs.SiteView.{placed_of}
-use Rattle.jr_cfg.specs.Placed.{placed}
-use Rattle.jr_cfg.specs.MemberRoutes.{FitsSites, NumbersMember, known}
-use Rattle.jr_cfg.specs.MemberRoutes as member_route
-use Rattle.jr_expr_sites.specs.KnownFacts.{Given, Others, known_of, place}
+use Rattle.jr_cfg.specs.MemberRoutes.{known}
+use Rattle.jr_expr_sites.specs.KnownFacts.{Given}
 use Rattle.jr_expr_sites.specs.Routes.{begins_by, ends_by}
-use Rattle.jr_expr_sites.specs.Routes as route
-use Rattle.jr_expr_sites.specs.StepView.{given, steps_in}
-use Rattle.jr_expr_sites.specs.Steps.{sites_in}
-use Rattle.jr_piece_sites.specs.declared.pieces.Piece as raw
-use Rattle.jr_piece_sites.specs.Leads.{spots_of, AreParts, AllStmts}
+use Rattle.jr_piece_sites.specs.Leads.{spots_of}
 use Rattle.jr_piece_sites.specs.Pieces as pure
-use Rattle.jr_piece_sites.specs.Pieces.{Piece, FitsPiece, NumbersPiece, StartsAt, spotted, piece_at, part_of, mark_of, first_number}
+use Rattle.jr_piece_sites.specs.Pieces.{spotted, piece_at}
 use Rattle.jr_piece_sites.specs.PieceView.{piece_of}
 use Rattle.jr_piece_sites.proofs.Fitting.{member_own}
 use Rattle.jr_piece_sites.proofs.Leading as leading
 use Rattle.jr_piece_sites.proofs.SpottedPaths as spotted_path
-use Rattle.jr_piece_sites.proofs.Descents as down
-use Rattle.jr_piece_sites.proofs.Growths as growth
 use Rattle.jr_piece_sites.specs.Leads.{of_exp}
 use Rattle.jr_footprints.specs.Footprints.{IsFootprint}
 use Rattle.jr_piece_sites.proofs.member_footprints.footprint.Goals as goal
@@ -42,14 +29,8 @@ span-requires g c =
 pub unreachable-requires : goal.unreachable-requires
 unreachable-requires g c =
     let T = g.A.Mark.span_from in
-    let F = g.A.Mark.fits_at in
     let m = member_of c.args.member.now in
     let base = c.args.base in
-    let facts = c.args.facts.now in
-    let K = known T c.args.table.now (g.F.Facts.key facts) (g.F.Facts.decls facts) (g.F.Facts.types facts) c.args.never_null.now base m in
-    let G : Given = record { rows = c.args.table.now; member = member_key_of c.member.result.now; start = c.span.result.from; decls = g.F.Facts.decls facts; types = g.F.Facts.types facts; never_null = c.args.never_null.now } in
-    let start : c.span.result.from ≡ begins_by T (member_mark m) base = ap (λ (z : Span). z.from) c.span.ensures ∙ ap (λ (x : g.row.A.Denot). begins_by T x base) (sym (member_mark_is c.args.member.now)) in
-    let same : G ≡ K = (λ i. record { rows = c.args.table.now; member = c.member.ensures i; start = start i; decls = g.F.Facts.decls facts; types = g.F.Facts.types facts; never_null = c.args.never_null.now }) in
     let path = c.args.path.now.steps.items in
     let x = pure.member (spots_of T base m) in
     let at = spotted_path.exp_at T m base path c.requires.at in
@@ -61,14 +42,8 @@ unreachable-requires g c =
 pub unreachable-requires-in-Stmt : goal.unreachable-requires-in-Stmt
 unreachable-requires-in-Stmt g c =
     let T = g.A.Mark.span_from in
-    let F = g.A.Mark.fits_at in
     let m = member_of c.args.member.now in
     let base = c.args.base in
-    let facts = c.args.facts.now in
-    let K = known T c.args.table.now (g.F.Facts.key facts) (g.F.Facts.decls facts) (g.F.Facts.types facts) c.args.never_null.now base m in
-    let G : Given = record { rows = c.args.table.now; member = member_key_of c.member.result.now; start = c.span.result.from; decls = g.F.Facts.decls facts; types = g.F.Facts.types facts; never_null = c.args.never_null.now } in
-    let start : c.span.result.from ≡ begins_by T (member_mark m) base = ap (λ (z : Span). z.from) c.span.ensures ∙ ap (λ (x : g.row.A.Denot). begins_by T x base) (sym (member_mark_is c.args.member.now)) in
-    let same : G ≡ K = (λ i. record { rows = c.args.table.now; member = c.member.ensures i; start = start i; decls = g.F.Facts.decls facts; types = g.F.Facts.types facts; never_null = c.args.never_null.now }) in
     let path = c.args.path.now.steps.items in
     let x = pure.member (spots_of T base m) in
     let at = spotted_path.exp_at T m base path c.requires.at in
@@ -84,14 +59,8 @@ unreachable-requires-in-Stmt g c =
 pub unreachable-requires-in-Member : goal.unreachable-requires-in-Member
 unreachable-requires-in-Member g c =
     let T = g.A.Mark.span_from in
-    let F = g.A.Mark.fits_at in
     let m = member_of c.args.member.now in
     let base = c.args.base in
-    let facts = c.args.facts.now in
-    let K = known T c.args.table.now (g.F.Facts.key facts) (g.F.Facts.decls facts) (g.F.Facts.types facts) c.args.never_null.now base m in
-    let G : Given = record { rows = c.args.table.now; member = member_key_of c.member.result.now; start = c.span.result.from; decls = g.F.Facts.decls facts; types = g.F.Facts.types facts; never_null = c.args.never_null.now } in
-    let start : c.span.result.from ≡ begins_by T (member_mark m) base = ap (λ (z : Span). z.from) c.span.ensures ∙ ap (λ (x : g.row.A.Denot). begins_by T x base) (sym (member_mark_is c.args.member.now)) in
-    let same : G ≡ K = (λ i. record { rows = c.args.table.now; member = c.member.ensures i; start = start i; decls = g.F.Facts.decls facts; types = g.F.Facts.types facts; never_null = c.args.never_null.now }) in
     let path = c.args.path.now.steps.items in
     let x = pure.member (spots_of T base m) in
     let at = spotted_path.exp_at T m base path c.requires.at in
@@ -107,7 +76,6 @@ unreachable-requires-in-Member g c =
 pub returns : goal.returns
 returns g c o e at =
     let T = g.A.Mark.span_from in
-    let F = g.A.Mark.fits_at in
     let m = member_of c.args.member.now in
     let base = c.args.base in
     let facts = c.args.facts.now in

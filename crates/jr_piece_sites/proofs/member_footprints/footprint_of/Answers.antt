@@ -1,36 +1,27 @@
-use Rattle.std.proofs.Common.{◌≡◌, ℕ, zero, suc, pred, ◌+◌, ◌-◌, ◌≤◌, List, [], ◌∷◌, ◌++◌, length, take, map, Option, Some, None, option_map, refl, ap, sym, subst, ◌∙◌, arith}
+use Rattle.std.proofs.Common.{◌≡◌, ◌-◌, List, [], map, refl, ap, sym, subst, ◌∙◌}
 use Rattle.std.specs.Prelude.{IfOk, IfSome}
 use Rattle.std.proofs.lemmas.Option.{none-some, same_Some}
 use Rattle.jr_text.specs.declared.spans.Span.{Span}
-use Rattle.jr_ast.specs.Tree as tree
-use Rattle.jr_ast.specs.StatementTree as statement
 use Rattle.jr_ast.specs.Nodes as nodes
 use Rattle.jr_ast.specs.Marks.{member_mark}
-use Rattle.jr_ast.specs.View.{member_of, expr_of, stmt_of}
+use Rattle.jr_ast.specs.View.{member_of}
 use Rattle.jr_ast.proofs.Rows.{member_mark_is}
 use Rattle.jr_table.specs.KeyView.{member_key_of}
-use Rattle.jr_cover.specs.Spots.{Spot, spot_exp}
+use Rattle.jr_cover.specs.Spots.{Spot}
 use Rattle.jr_cover.specs.Ways.{sites_of}
-use Rattle.jr_cover.specs.Sites.{exp_way, stmt_way}
 use Rattle.jr_sites.specs.SiteView.{placed_of}
 use Rattle.jr_cfg.specs.Placed.{placed}
-use Rattle.jr_cfg.specs.MemberRoutes.{FitsSites, NumbersMember, known}
-use Rattle.jr_cfg.specs.MemberRoutes as member_route
-use Rattle.jr_expr_sites.specs.KnownFacts.{Given, Others, known_of, place}
-use Rattle.jr_expr_sites.specs.Routes.{begins_by, ends_by}
-use Rattle.jr_expr_sites.specs.Routes as route
-use Rattle.jr_expr_sites.specs.StepView.{given, steps_in}
-use Rattle.jr_expr_sites.specs.Steps.{sites_in}
-use Rattle.jr_piece_sites.specs.declared.pieces.Piece as raw
+use Rattle.jr_cfg.specs.MemberRoutes.{known}
+use Rattle.jr_expr_sites.specs.KnownFacts.{Given, known_of}
+use Rattle.jr_expr_sites.specs.Routes.{begins_by}
 use Rattle.jr_piece_sites.specs.Leads.{spots_of, AreParts, AllStmts}
 use Rattle.jr_piece_sites.specs.Pieces as pure
-use Rattle.jr_piece_sites.specs.Pieces.{Piece, FitsPiece, NumbersPiece, StartsAt, spotted, piece_at, part_of, mark_of, first_number}
+use Rattle.jr_piece_sites.specs.Pieces.{Piece, spotted}
 use Rattle.jr_piece_sites.specs.PieceView.{piece_of}
 use Rattle.jr_piece_sites.proofs.Fitting.{member_own}
 use Rattle.jr_piece_sites.proofs.Leading as leading
 use Rattle.jr_piece_sites.proofs.SpottedPaths as spotted_path
 use Rattle.jr_piece_sites.proofs.Descents as down
-use Rattle.jr_piece_sites.proofs.Growths as growth
 use Rattle.jr_code.specs.RunKeys.{RunKeys}
 use Rattle.jr_cover.specs.Sites.{Site, stmts_way}
 use Rattle.jr_piece_sites.specs.Descent.{Descended}
@@ -48,16 +39,9 @@ reach-reached-requires g c = record { fits = c.requires.fits; begins = ap (λ (z
 pub unreachable-requires : goal.unreachable-requires
 unreachable-requires g c =
     let T = g.A.Mark.span_from in
-    let F = g.A.Mark.fits_at in
     let m = member_of c.args.member.now in
     let base = c.args.base in
-    let facts = c.args.facts.now in
-    let K = known T c.args.table.now (g.F.Facts.key facts) (g.F.Facts.decls facts) (g.F.Facts.types facts) c.args.never_null.now base m in
-    let G : Given = record { rows = c.args.table.now; member = member_key_of c.member.result.now; start = c.span.result.from; decls = g.F.Facts.decls facts; types = g.F.Facts.types facts; never_null = c.args.never_null.now } in
-    let start : c.span.result.from ≡ begins_by T (member_mark m) base = ap (λ (z : Span). z.from) c.span.ensures ∙ ap (λ (x : g.row.A.Denot). begins_by T x base) (sym (member_mark_is c.args.member.now)) in
-    let same : G ≡ K = (λ i. record { rows = c.args.table.now; member = c.member.ensures i; start = start i; decls = g.F.Facts.decls facts; types = g.F.Facts.types facts; never_null = c.args.never_null.now }) in
     let list = c.args.list.now.steps.items in
-    let x = pure.member (spots_of T base m) in
     let parts = spotted_path.parts_at T m base list c.args.from c.args.to c.requires.at in
     let z = parts.of in
     let leads = parts.leads in
@@ -70,12 +54,9 @@ parts_footprint-requires g c =
     let m = member_of c.args.member.now in
     let base = c.args.base in
     let facts = c.args.facts.now in
-    let K = known T c.args.table.now (g.F.Facts.key facts) (g.F.Facts.decls facts) (g.F.Facts.types facts) c.args.never_null.now base m in
     let G : Given = record { rows = c.args.table.now; member = member_key_of c.member.result.now; start = c.span.result.from; decls = g.F.Facts.decls facts; types = g.F.Facts.types facts; never_null = c.args.never_null.now } in
     let start : c.span.result.from ≡ begins_by T (member_mark m) base = ap (λ (z : Span). z.from) c.span.ensures ∙ ap (λ (x : g.row.A.Denot). begins_by T x base) (sym (member_mark_is c.args.member.now)) in
-    let same : G ≡ K = (λ i. record { rows = c.args.table.now; member = c.member.ensures i; start = start i; decls = g.F.Facts.decls facts; types = g.F.Facts.types facts; never_null = c.args.never_null.now }) in
     let list = c.args.list.now.steps.items in
-    let x = pure.member (spots_of T base m) in
     let parts = spotted_path.parts_at T m base list c.args.from c.args.to c.requires.at in
     let z = parts.of in
     let leads = parts.leads in

@@ -1,35 +1,7 @@
-use Rattle.std.proofs.Common.{◌≡◌, ℕ, zero, suc, pred, ◌+◌, ◌-◌, List, [], ◌∷◌, ◌++◌, length, take, map, Option, Some, None, option_map, refl, ap, sym, subst, ◌∙◌, arith}
-use Rattle.std.specs.Prelude.{IfOk, IfSome}
-use Rattle.std.proofs.lemmas.Option.{none-some, same_Some}
-use Rattle.jr_text.specs.declared.spans.Span.{Span}
-use Rattle.jr_ast.specs.Tree as tree
-use Rattle.jr_ast.specs.StatementTree as statement
-use Rattle.jr_ast.specs.Nodes as nodes
-use Rattle.jr_ast.specs.Marks.{member_mark}
-use Rattle.jr_ast.specs.View.{member_of, expr_of, stmt_of}
-use Rattle.jr_ast.proofs.Rows.{member_mark_is}
-use Rattle.jr_table.specs.KeyView.{member_key_of}
-use Rattle.jr_cover.specs.Spots.{Spot, spot_exp}
-use Rattle.jr_cover.specs.Ways.{sites_of}
-use Rattle.jr_cover.specs.Sites.{exp_way, stmt_way}
-use Rattle.jr_sites.specs.SiteView.{placed_of}
-use Rattle.jr_cfg.specs.Placed.{placed}
-use Rattle.jr_cfg.specs.MemberRoutes.{FitsSites, NumbersMember, known}
-use Rattle.jr_cfg.specs.MemberRoutes as member_route
-use Rattle.jr_expr_sites.specs.KnownFacts.{Given, Others, known_of, place}
-use Rattle.jr_expr_sites.specs.Routes.{begins_by, ends_by}
-use Rattle.jr_expr_sites.specs.Routes as route
-use Rattle.jr_expr_sites.specs.StepView.{given, steps_in}
-use Rattle.jr_expr_sites.specs.Steps.{sites_in}
-use Rattle.jr_piece_sites.specs.declared.pieces.Piece as raw
-use Rattle.jr_piece_sites.specs.Leads.{spots_of, AreParts, AllStmts}
-use Rattle.jr_piece_sites.specs.Pieces as pure
-use Rattle.jr_piece_sites.specs.Pieces.{Piece, FitsPiece, NumbersPiece, StartsAt, spotted, piece_at, part_of, mark_of, first_number}
+use Rattle.std.proofs.Common.{◌≡◌, ℕ, suc, ◌+◌, option_map, sym, subst, ◌∙◌, arith}
+use Rattle.jr_expr_sites.specs.StepView.{given}
+use Rattle.jr_piece_sites.specs.Pieces.{FitsPiece, part_of}
 use Rattle.jr_piece_sites.specs.PieceView.{piece_of}
-use Rattle.jr_piece_sites.proofs.Fitting.{member_own}
-use Rattle.jr_piece_sites.proofs.Leading as leading
-use Rattle.jr_piece_sites.proofs.Descents as down
-use Rattle.jr_piece_sites.proofs.Growths as growth
 use Rattle.jr_piece_sites.proofs.Fitting.{Fits, part_fits}
 use Rattle.jr_piece_sites.proofs.Putting as putting
 use Rattle.jr_piece_sites.proofs.member_footprints.put_parts.Goals as goal
@@ -41,18 +13,14 @@ pub put_part-requires : goal.put_part-requires
 put_part-requires g c =
     let T = g.A.Mark.span_from in
     let F = g.A.Mark.fits_at in
-    let G = given g.F.Facts.decls g.F.Facts.types c.args.here.now in
-    let path = c.args.path.now.steps.items in
     let f = c.args.found in
     let y = piece_of f.of in
-    let old = c.args.out.now.items in
     let fit = subst (λ (b : ℕ). Fits T F b (part_of y c.loop-step.step)) (sym c.begin-at.ensures) (part_fits T F f.base y c.requires.fits c.loop-step.step) in
     record { fits = putting.some_of piece_of (FitsPiece T F c.begin-at.result) c.part.result (λ p is. subst (Fits T F c.begin-at.result) (sym c.part.ensures ∙ is) fit) }
 
 pub loop-step-init : goal.loop-step-init
 loop-step-init g c =
     let T = g.A.Mark.span_from in
-    let F = g.A.Mark.fits_at in
     let G = given g.F.Facts.decls g.F.Facts.types c.args.here.now in
     let path = c.args.path.now.steps.items in
     let f = c.args.found in
@@ -63,7 +31,6 @@ loop-step-init g c =
 pub loop-step-preserved : goal.loop-step-preserved
 loop-step-preserved g c =
     let T = g.A.Mark.span_from in
-    let F = g.A.Mark.fits_at in
     let G = given g.F.Facts.decls g.F.Facts.types c.args.here.now in
     let path = c.args.path.now.steps.items in
     let f = c.args.found in
@@ -78,7 +45,6 @@ loop-step-preserved g c =
 pub returns : goal.returns
 returns g c o q =
     let T = g.A.Mark.span_from in
-    let F = g.A.Mark.fits_at in
     let G = given g.F.Facts.decls g.F.Facts.types c.args.here.now in
     let path = c.args.path.now.steps.items in
     let f = c.args.found in

@@ -1,8 +1,5 @@
-use Rattle.std.proofs.Common.{◌≡◌, ℕ, ◌<◌, Some, None, Bor, option_map, ap, sym, ◌∙◌, arith}
-use Rattle.jr_ast.specs.declared.exprs.Expr.{Expr}
+use Rattle.std.proofs.Common.{◌∙◌}
 use Rattle.jr_ast.specs.View.{expr_of, exprs_of}
-use Rattle.jr_piece_sites.specs.Parts as pure
-use Rattle.jr_piece_sites.specs.PartsView.{parts_view}
 use Rattle.jr_piece_sites.proofs.Places as place
 use Rattle.jr_piece_sites.proofs.parts.in_call.Goals as goal
 

@@ -1,4 +1,4 @@
-use Rattle.std.proofs.Common.{◌≡◌, true, false, ap, sym, ◌∙◌}
+use Rattle.std.proofs.Common.{true, false, ap, sym, ◌∙◌}
 use Rattle.jr_ast.specs.declared.exprs.ExprKind.{Call}
 use Rattle.jr_ast.specs.Tree as tree
 use Rattle.jr_ast.specs.View.{exprs_of, expr_of, expr_kind}

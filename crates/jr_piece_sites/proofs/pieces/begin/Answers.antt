@@ -1,7 +1,6 @@
-use Rattle.std.proofs.Common.{◌≡◌, ℕ, zero, suc, pred, ◌+◌, ◌-◌, List, [], ◌∷◌, ◌++◌, length, take, map, Option, Some, None, option_map, refl, ap, sym, subst, ◌∙◌, arith}
+use Rattle.std.proofs.Common.{ap, sym, subst, ◌∙◌}
 use Rattle.jr_text.specs.declared.spans.Span.{Span}
-use Rattle.jr_ast.specs.View.{member_of, stmt_of, expr_of}
-use Rattle.jr_ast.specs.Marks.{exp_mark, stmt_mark, member_mark}
+use Rattle.jr_ast.specs.View.{member_of, stmt_of}
 use Rattle.jr_ast.proofs.Rows.{expr_mark_is, stmt_mark_is, member_mark_is}
 use Rattle.jr_bind_expr.proofs.Steps.{own_fits}
 use Rattle.jr_expr_sites.specs.Routes.{begins_by}

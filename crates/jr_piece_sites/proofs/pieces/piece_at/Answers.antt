@@ -1,6 +1,4 @@
-use Rattle.std.proofs.Common.{◌≡◌, ℕ, ◌+◌, List, [], take, drop, Some, None, option_map, get_or, refl, ap, sym, ◌∙◌}
-use Rattle.jr_ast.specs.View.{member_of}
-use Rattle.jr_expr_sites.specs.Routes.{begins_by}
+use Rattle.std.proofs.Common.{◌≡◌, ℕ, ◌+◌, take, drop, Some, option_map, get_or, refl, ap, sym, ◌∙◌}
 use Rattle.jr_piece_sites.specs.Pieces as pure
 use Rattle.jr_piece_sites.specs.Pieces.{FitsPiece, spotted}
 use Rattle.jr_piece_sites.specs.PieceView.{piece_of}

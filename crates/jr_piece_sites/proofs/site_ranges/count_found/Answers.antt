@@ -1,4 +1,4 @@
-use Rattle.std.proofs.Common.{◌≡◌, ap, ◌∙◌}
+use Rattle.std.proofs.Common.{ap, ◌∙◌}
 use Rattle.jr_expr_sites.specs.StepView.{given}
 use Rattle.jr_piece_sites.specs.Growth.{count}
 use Rattle.jr_piece_sites.proofs.Counting.{only_these}

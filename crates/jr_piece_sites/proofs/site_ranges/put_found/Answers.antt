@@ -1,4 +1,4 @@
-use Rattle.std.proofs.Common.{◌≡◌, ℕ, List, sym, subst}
+use Rattle.std.proofs.Common.{sym, subst}
 use Rattle.jr_ast.specs.View.{expr_of, stmt_of}
 use Rattle.jr_expr_sites.specs.KnownFacts.{known_of}
 use Rattle.jr_expr_sites.specs.Routes as route

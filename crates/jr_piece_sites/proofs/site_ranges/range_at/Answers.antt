@@ -1,8 +1,7 @@
-use Rattle.std.proofs.Common.{◌≡◌, ℕ, ◌+◌, List, [], Some, refl, ap, sym, subst, ◌∙◌}
+use Rattle.std.proofs.Common.{◌≡◌, ◌+◌, [], refl, ap, sym, subst, ◌∙◌}
 use Rattle.std.specs.Prelude.{IfSome}
 use Rattle.std.proofs.lemmas.Option.{none-some, same_Some}
 use Rattle.jr_ast.specs.View.{member_of}
-use Rattle.jr_cover.specs.Spots.{Spot}
 use Rattle.jr_expr_sites.specs.KnownFacts.{known_of}
 use Rattle.jr_expr_sites.specs.StepView.{given}
 use Rattle.jr_piece_sites.specs.Descent.{Descended}
@@ -10,7 +9,7 @@ use Rattle.jr_piece_sites.specs.Extents.{piece_size}
 use Rattle.jr_piece_sites.specs.Growth.{count}
 use Rattle.jr_piece_sites.specs.Leads.{spots_of}
 use Rattle.jr_piece_sites.specs.Pieces as pure
-use Rattle.jr_piece_sites.specs.Pieces.{Piece, piece_at, spotted}
+use Rattle.jr_piece_sites.specs.Pieces.{spotted}
 use Rattle.jr_piece_sites.specs.PieceView.{piece_of}
 use Rattle.jr_piece_sites.proofs.Descents.{counted, step_end}
 use Rattle.jr_piece_sites.proofs.Growths.{if_ok_then}

@@ -1,4 +1,4 @@
-use Rattle.std.proofs.Common.{◌≡◌, ℕ, ◌+◌, List, Option, Some, refl, ap, sym, subst, ◌∙◌, ◌++◌}
+use Rattle.std.proofs.Common.{◌≡◌, ℕ, ◌+◌, Option, ap, sym, subst, ◌∙◌}
 use Rattle.std.specs.Prelude.{IfOk, option_and_then}
 use Rattle.jr_text.specs.declared.spans.Span.{Span}
 use Rattle.jr_ast.specs.Marks.{member_mark}
@@ -66,7 +66,6 @@ returns-clause-of_expression g c o numbers outer rest is s there e way goes eval
     let start : c.span.result.from ≡ begins_by T (member_mark m) base = ap (λ (z : Span). z.from) c.span.ensures ∙ ap (λ (x : g.row.A.Denot). begins_by T x base) (sym (member_mark_is c.args.member.now)) in
     let same : G ≡ K = (λ i. record { rows = c.args.table.now; member = c.member.ensures i; start = start i; decls = g.F.Facts.decls facts; types = g.F.Facts.types facts; never_null = c.args.never_null.now }) in
     let whole = pure.member (spots_of T base m) in
-    let path = c.args.path.now.steps.items in
     let X = known_of G o in
     let w = λ (q : Given). member_route.member T super_at base k m q o in
     let back = subst (λ (q : Given). StmtEvaluated (known_of q o) way) (sym same) evaluated in

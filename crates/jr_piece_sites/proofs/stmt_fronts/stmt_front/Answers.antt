@@ -1,33 +1,13 @@
-use Rattle.std.proofs.Common.{◌≡◌, ℕ, zero, suc, pred, ◌+◌, ◌-◌, List, [], ◌∷◌, ◌++◌, length, take, map, Option, Some, None, option_map, refl, ap, sym, subst, ◌∙◌, arith}
+use Rattle.std.proofs.Common.{◌≡◌, option_map, ap, sym, subst, ◌∙◌}
 use Rattle.jr_text.specs.declared.spans.Span.{Span}
-use Rattle.jr_ast.specs.declared.exprs.Expr.{Expr}
 use Rattle.jr_ast.specs.declared.stmts.Stmt.{Stmt}
-use Rattle.jr_ast.specs.Marks.{exp_mark, stmt_mark}
-use Rattle.jr_ast.specs.View.{expr_of, exprs_of, stmt_of, stmts_of}
-use Rattle.jr_ast.proofs.Rows.{expr_mark_is, stmt_mark_is}
-use Rattle.jr_bind_expr.specs.Fits.{FitsExp, FitsExps, FitsTarget, FitsStmt, FitsStmts}
-use Rattle.jr_bind_expr.proofs.Steps.{own_fits}
-use Rattle.jr_cover.specs.Sites.{unless, exps_way, stmts_way}
-use Rattle.jr_cover.specs.Spots.{spot_exp, spot_exps, spot_stmt, spot_stmts}
-use Rattle.jr_cover.specs.Ways.{size}
+use Rattle.jr_ast.specs.View.{expr_of, stmt_of}
+use Rattle.jr_ast.proofs.Rows.{stmt_mark_is}
+use Rattle.jr_bind_expr.specs.Fits.{FitsStmt}
 use Rattle.jr_expr_sites.specs.StepView.{given}
-use Rattle.jr_expr_sites.specs.KnownFacts.{Others, known_of}
-use Rattle.jr_expr_sites.specs.Routes.{begins_by, ends_by, spots}
-use Rattle.jr_expr_sites.specs.Routes as route
-use Rattle.jr_expr_sites.proofs.Walking.{on_ok_then}
-use Rattle.jr_cfg.specs.StatementRoutes as list
-use Rattle.jr_piece_sites.specs.Fronts.{one_if, behind_first, in_front_of_second, exps_front, exp_front, stmts_front}
-use Rattle.jr_piece_sites.specs.Growth.{count, Grows, GrownTo}
-use Rattle.jr_piece_sites.specs.Parts as parts
-use Rattle.jr_piece_sites.specs.Parts.{Parts, parts_of}
-use Rattle.jr_piece_sites.specs.PartsView.{parts_view, between_of}
-use Rattle.jr_piece_sites.proofs.Counting as counting
-use Rattle.jr_piece_sites.proofs.ExprKinds as kind
+use Rattle.jr_expr_sites.specs.Routes.{begins_by}
 use Rattle.jr_ast.specs.StatementTree as statement
-use Rattle.jr_table.specs.Context.{locals_in, locals_in_row}
-use Rattle.jr_cfg.specs.StatementRoutes.{Passed, Numbered, NumberedAll}
-use Rattle.jr_piece_sites.specs.Fronts.{branch_front, stmt_front}
-use Rattle.jr_piece_sites.specs.Pieces.{locals_up_to, branch_locals, stmt_locals}
+use Rattle.jr_piece_sites.specs.Fronts.{branch_front}
 use Rattle.jr_piece_sites.proofs.Growths as growth
 use Rattle.jr_ast.specs.View.{word_of, type_of, else_of, stmt_kind, stmt_row, held_else}
 use Rattle.jr_ast.proofs.Rows.{stmt_kind-If, stmt_kind-Block, stmt_kind-Sync}
@@ -43,12 +23,7 @@ unfolding stmt_kind stmt_row held_else
 branch_front-requires g c =
     let T = g.A.Mark.span_from in
     let F = g.A.Mark.fits_at in
-    let G = given g.F.Facts.decls g.F.Facts.types c.args.here.now in
-    let path = c.args.path.now.steps.items in
-    let old = c.args.out.now.items in
-    let n = c.args.number in
     let base = c.args.base in
-    let i = c.args.part in
     let m = c.args.of.now.mark in
     let at = c.span-at.result.from in
     let start : at ≡ begins_by T m base = ap (λ (z : Span). z.from) c.span-at.ensures in
@@ -60,12 +35,7 @@ unfolding stmt_kind stmt_row held_else
 loop_front-requires g c =
     let T = g.A.Mark.span_from in
     let F = g.A.Mark.fits_at in
-    let G = given g.F.Facts.decls g.F.Facts.types c.args.here.now in
-    let path = c.args.path.now.steps.items in
-    let old = c.args.out.now.items in
-    let n = c.args.number in
     let base = c.args.base in
-    let i = c.args.part in
     let m = c.args.of.now.mark in
     let at = c.span-at.result.from in
     let start : at ≡ begins_by T m base = ap (λ (z : Span). z.from) c.span-at.ensures in
@@ -76,12 +46,7 @@ unfolding stmt_kind stmt_row held_else
 put_stmts-requires g c =
     let T = g.A.Mark.span_from in
     let F = g.A.Mark.fits_at in
-    let G = given g.F.Facts.decls g.F.Facts.types c.args.here.now in
-    let path = c.args.path.now.steps.items in
-    let old = c.args.out.now.items in
-    let n = c.args.number in
     let base = c.args.base in
-    let i = c.args.part in
     let m = c.args.of.now.mark in
     let at = c.span-at.result.from in
     let start : at ≡ begins_by T m base = ap (λ (z : Span). z.from) c.span-at.ensures in
@@ -92,12 +57,7 @@ unfolding stmt_kind stmt_row held_else
 sync_front-requires g c =
     let T = g.A.Mark.span_from in
     let F = g.A.Mark.fits_at in
-    let G = given g.F.Facts.decls g.F.Facts.types c.args.here.now in
-    let path = c.args.path.now.steps.items in
-    let old = c.args.out.now.items in
-    let n = c.args.number in
     let base = c.args.base in
-    let i = c.args.part in
     let m = c.args.of.now.mark in
     let at = c.span-at.result.from in
     let start : at ≡ begins_by T m base = ap (λ (z : Span). z.from) c.span-at.ensures in
@@ -108,7 +68,6 @@ pub returns-in-Local : goal.returns-in-Local
 unfolding stmt_kind stmt_row held_else
 returns-in-Local g c =
     let T = g.A.Mark.span_from in
-    let F = g.A.Mark.fits_at in
     let G = given g.F.Facts.decls g.F.Facts.types c.args.here.now in
     let path = c.args.path.now.steps.items in
     let old = c.args.out.now.items in
@@ -124,7 +83,6 @@ pub returns-in-Eval : goal.returns-in-Eval
 unfolding stmt_kind stmt_row held_else
 returns-in-Eval g c =
     let T = g.A.Mark.span_from in
-    let F = g.A.Mark.fits_at in
     let G = given g.F.Facts.decls g.F.Facts.types c.args.here.now in
     let path = c.args.path.now.steps.items in
     let old = c.args.out.now.items in
@@ -140,7 +98,6 @@ pub returns-in-Return : goal.returns-in-Return
 unfolding stmt_kind stmt_row held_else
 returns-in-Return g c =
     let T = g.A.Mark.span_from in
-    let F = g.A.Mark.fits_at in
     let G = given g.F.Facts.decls g.F.Facts.types c.args.here.now in
     let path = c.args.path.now.steps.items in
     let old = c.args.out.now.items in
@@ -156,7 +113,6 @@ pub returns-in-Empty : goal.returns-in-Empty
 unfolding stmt_kind stmt_row held_else
 returns-in-Empty g c =
     let T = g.A.Mark.span_from in
-    let F = g.A.Mark.fits_at in
     let G = given g.F.Facts.decls g.F.Facts.types c.args.here.now in
     let path = c.args.path.now.steps.items in
     let old = c.args.out.now.items in
@@ -172,7 +128,6 @@ pub returns-in-If : goal.returns-in-If
 unfolding stmt_kind stmt_row held_else
 returns-in-If g c =
     let T = g.A.Mark.span_from in
-    let F = g.A.Mark.fits_at in
     let G = given g.F.Facts.decls g.F.Facts.types c.args.here.now in
     let path = c.args.path.now.steps.items in
     let old = c.args.out.now.items in
@@ -189,7 +144,6 @@ pub returns-in_ok-loop_front-in-While : goal.returns-in_ok-loop_front-in-While
 unfolding stmt_kind stmt_row held_else
 returns-in_ok-loop_front-in-While g c =
     let T = g.A.Mark.span_from in
-    let F = g.A.Mark.fits_at in
     let G = given g.F.Facts.decls g.F.Facts.types c.args.here.now in
     let path = c.args.path.now.steps.items in
     let old = c.args.out.now.items in
@@ -206,7 +160,6 @@ pub returns-in-Block : goal.returns-in-Block
 unfolding stmt_kind stmt_row held_else
 returns-in-Block g c =
     let T = g.A.Mark.span_from in
-    let F = g.A.Mark.fits_at in
     let G = given g.F.Facts.decls g.F.Facts.types c.args.here.now in
     let path = c.args.path.now.steps.items in
     let old = c.args.out.now.items in
@@ -223,7 +176,6 @@ pub returns-in-Sync : goal.returns-in-Sync
 unfolding stmt_kind stmt_row held_else
 returns-in-Sync g c =
     let T = g.A.Mark.span_from in
-    let F = g.A.Mark.fits_at in
     let G = given g.F.Facts.decls g.F.Facts.types c.args.here.now in
     let path = c.args.path.now.steps.items in
     let old = c.args.out.now.items in
