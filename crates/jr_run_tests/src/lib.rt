@@ -5,8 +5,7 @@
 //! mean, what scripts are read as, shows, runs and renames (`words`, `scripts`, `shows`,
 //! `dependences`, `runs`, `renames`, `renaming`, `kinds`, `rules`, `endings`). Beside the rows: files
 //! that are fetched and stored, texts of reports and faults, sessions, want of memory (`files`,
-//! `reports`, `faults`, `sessions`, `memory`). `members` binds one member by its key; `graphs`, with
-//! `methods` and `parts`, asks for the sites of one, and of its parts.
+//! `reports`, `faults`, `sessions`, `memory`).
 #![tactic(auto)]
 
 #[cfg(test)]
@@ -20,17 +19,9 @@ mod faults;
 #[cfg(test)]
 mod files;
 #[cfg(test)]
-mod graphs;
-#[cfg(test)]
 mod kinds;
 #[cfg(test)]
-mod members;
-#[cfg(test)]
 mod memory;
-#[cfg(test)]
-mod methods;
-#[cfg(test)]
-mod parts;
 #[cfg(test)]
 mod renames;
 #[cfg(test)]

@@ -2,7 +2,6 @@
 //! line without ` => ` is a remark.
 use crate::dependences::{self, show_among, show_dependences, show_many};
 use crate::endings::{self, end_by};
-use crate::graphs::{self, tell_count_of, tell_of_graph, tell_of_part};
 use crate::kinds::{self, run_kind};
 use crate::renaming::{self, run_back, run_renamed, run_two};
 use crate::runs::{self, run_bad, run_edits, run_one, run_source};
@@ -49,11 +48,6 @@ fn answer(rt: &impl Abort, alloc: Global, asked: &str) -> String {
         "three" => run_renamed(rt, alloc, asked),
         "rename" => run_kind(rt, alloc, asked),
         "back" => run_back(rt, alloc, asked),
-        "graph" | "list" => tell_of_graph(rt, alloc, kind, asked),
-        "count" => tell_count_of(rt, alloc, asked),
-        "part" | "plain" | "parts" | "before" | "range" | "null" => {
-            tell_of_part(rt, alloc, kind, asked)
-        }
         _ => end_by(rt, alloc, asked),
     }
 }
@@ -81,7 +75,6 @@ fn rows_are_answered(rt: HostRuntime) {
     assert_rows(&rt, alloc, runs::SCRIPTS, 11);
     assert_rows(&rt, alloc, runs::WORDS, 13);
     assert_rows(&rt, alloc, runs::FAULTS, 11);
-    assert_rows(&rt, alloc, graphs::ROWS, 99);
     assert_rows(&rt, alloc, renames::ROWS, 53);
     assert_rows(&rt, alloc, renaming::ROWS, 8);
     assert_rows(&rt, alloc, renaming::THREE, 8);

@@ -1,10 +1,9 @@
 //! Sites and edges of the first method of a class, footprints of its parts, and which of its sites
 //! are those of a part. A site is told by what is done and, behind a dot, the number of its local
 //! or the name of its field, with its place in the method.
-use crate::depths::put_pieces;
-use crate::memory::put;
 use crate::methods::tell_method;
-use crate::rows::cut_at;
+use crate::reading::put_times;
+use crate::rows::{cut_at, number};
 use jr_effect::dependences;
 use jr_flow::Graph;
 use jr_member_graphs::CfgFault;
@@ -105,18 +104,18 @@ pub(crate) const ROWS: &'static str = "
 ~list void m(){while(true){f+=1;}} => Order 0 0;Order 0 1;Order 0 2;Order 1 0;Field 1 2;Order 2 \
     0;Field 2 1;Field 2 2
 ~# Of an expression: as it is evaluated for its value, also where it is a target.
-~part 3.0 in int m(A p){return p.f;} => Read.0@18 Check@20 Load.f@20
-~part 3.0.0 in int m(A p){return p.f;} => Read.0@18
-~part 2.0.0 in void m(A p){p.f=g;} => Read.0@12 Check@14 Load.f@14
-~part 2.0.1 in void m(A p){p.f=g;} => Load.g@16
-~part 2.0 in void m(boolean q){if(q&&b)f=1;} => Read.0@21 Load.b@24
-~part 3.0.2 in int m(A p){return p.n(f+g);} => Load.f@22 Load.g@24
-~part 2.0 in void m(){A p=this;p.f=1;} => Read.0@18 Store.f@20
+~footprint 3.0 in int m(A p){return p.f;} => Read.0@18 Check@20 Load.f@20
+~footprint 3.0.0 in int m(A p){return p.f;} => Read.0@18
+~footprint 2.0.0 in void m(A p){p.f=g;} => Read.0@12 Check@14 Load.f@14
+~footprint 2.0.1 in void m(A p){p.f=g;} => Load.g@16
+~footprint 2.0 in void m(boolean q){if(q&&b)f=1;} => Read.0@21 Load.b@24
+~footprint 3.0.2 in int m(A p){return p.n(f+g);} => Load.f@22 Load.g@24
+~footprint 2.0 in void m(){A p=this;p.f=1;} => Read.0@18 Store.f@20
 ~# Of statements of a list.
-~parts 1 1 3 in void m(){{f=1;g=2;s=3;}} => Store.g@14 Store.s@18
-~parts 1 0 1 in void m(){{f=1;g=2;s=3;}} => Store.f@10
-~parts 1 1 1 in void m(){{f=1;g=2;s=3;}} => none
-~parts 1 0 2 in void m(){{A p=this;p.f=1;p=a;}} => Write.0@12 Read.0@19 Check@21 Store.f@21
+~statements 1 1 3 in void m(){{f=1;g=2;s=3;}} => Store.g@14 Store.s@18
+~statements 1 0 1 in void m(){{f=1;g=2;s=3;}} => Store.f@10
+~statements 1 1 1 in void m(){{f=1;g=2;s=3;}} => none
+~statements 1 0 2 in void m(){{A p=this;p.f=1;p=a;}} => Write.0@12 Read.0@19 Check@21 Store.f@21
 ~# How many stand in front of a part of a statement, or of the whole method.
 ~before 1 0.1 in void m(){f=g+v;} => 0
 ~before 1 0.1.1 in void m(){f=g+v;} => 1
@@ -149,6 +148,10 @@ pub(crate) const ROWS: &'static str = "
 ~null 2.0.0 in int m(){return ((this)).f;} => true
 ~null 2.0 in Object m(){return null;} => false
 ";
+
+pub(crate) fn put(rt: &impl Abort, text: &mut String, piece: &str) {
+    text.push_str(piece).expect(rt, "memory");
+}
 
 /// What is done at a site.
 fn done_at(rt: &impl Abort, alloc: Global, placed: &PlacedSite) -> String {
@@ -257,10 +260,14 @@ pub(crate) fn tell_of_graph(rt: &impl Abort, alloc: Global, kind: &str, method: 
     tell_method(rt, alloc, text.as_str(), kind, "")
 }
 
-/// How many sites a method has, whose text is made of pieces.
+/// How many sites a method has, whose text is made of pieces: each behind the number of times that
+/// it stands.
 pub(crate) fn tell_count_of(rt: &impl Abort, alloc: Global, pieces: &str) -> String {
     let mut method = String::new(alloc);
-    put_pieces(rt, &mut method, pieces);
+    for piece in pieces.split('|') {
+        let (times, piece) = cut_at(piece, "*");
+        put_times(rt, &mut method, piece, number(rt, times));
+    }
     tell_of_graph(rt, alloc, "count", method.as_str())
 }
 

@@ -9,8 +9,8 @@ use Rattle.jr_members.specs.WrittenLaws.{AreWritten}
 use Rattle.jr_program_laws.specs.FileParts.{begins}
 use Rattle.jr_bind.proofs.MemberFound.{to_mapped}
 use Rattle.jr_sources.proofs.PartsFit.{units_gathered}
-use Rattle.jr_run_tests.proofs.OneMember.{of_ok, can_bind}
-use Rattle.jr_run_tests.proofs.members.bound_in.Goals as goal
+use Rattle.jr_reading_tests.proofs.OneMember.{of_ok, can_bind}
+use Rattle.jr_reading_tests.proofs.members.bound_in.Goals as goal
 
 pub written_members-requires-clause-fits : goal.written_members-requires-clause-fits
 written_members-requires-clause-fits g c = units_gathered _ (map unit_of c.args.units.now)

@@ -13,7 +13,7 @@ ghost use Rattle.jr_members.specs.PartView.{part_of};
 ghost use Rattle.jr_program_laws.specs.FileParts.{begins, SuperStands};
 ghost use Rattle.jr_program_laws.specs.PlaceLaws.{IsFile};
 
-use crate::memory::put;
+use crate::graphs::put;
 use crate::rows::assert_same;
 use jr_ast::{Member, MemberKind, Path, Unit};
 use jr_bind::{Bound, bind_member};

@@ -173,12 +173,12 @@ pub(crate) fn tell_part(
     requires owner { IsOwner (member_of method.now.of.now) }
 {
     match kind {
-        "part" => { tell_sites(rt, alloc, footprint_at(rt, alloc, method, part).as_slice()) }
+        "footprint" => { tell_sites(rt, alloc, footprint_at(rt, alloc, method, part).as_slice()) }
         "plain" => {
             let plain = is_plain(footprint_at(rt, alloc, method, part).as_slice());
             format!(in alloc; "{plain}").expect(rt, "memory")
         }
-        "parts" => tell_parts(rt, alloc, method, part),
+        "statements" => tell_parts(rt, alloc, method, part),
         "before" => tell_before(rt, alloc, method, part),
         "range" => tell_range(rt, alloc, method, part),
         _ => tell_never_null(rt, alloc, method, part),

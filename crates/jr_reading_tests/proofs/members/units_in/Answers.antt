@@ -5,7 +5,7 @@ use Rattle.jr_ast.specs.declared.members.Unit.{Unit}
 use Rattle.jr_ast.specs.View.{unit_of}
 use Rattle.jr_build_rows.specs.Heads.{UnitsHeads}
 use Rattle.jr_sources.proofs.Heads.{classes_heads}
-use Rattle.jr_run_tests.proofs.members.units_in.Goals as goal
+use Rattle.jr_reading_tests.proofs.members.units_in.Goals as goal
 
 pub returns-clause-heads : goal.returns-clause-heads
 returns-clause-heads g c =
