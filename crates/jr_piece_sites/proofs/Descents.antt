@@ -144,14 +144,14 @@ module _ {A : Type 0} (tells : A → ℕ → Span) where
     gone_off i rest k at y place mid d is = sym (step_off (spotted tells at place y) i rest (part_off y at place i is)) ∙ d.leads
 
 -- what was put on the way, where the way began with nothing
-pub counted : (g : Given) (o : Others) (old new : Steps) (x : Piece Spot) {y : Piece Spot} (p : List ℕ) → old ≡ [] → count g new + before (known_of g o) y [] ≡ count g old + before (known_of g o) x p → count g new ≡ before (known_of g o) x p
+pub counted : (g : Given) (o : Others) (old new : Steps) (x y : Piece Spot) (p : List ℕ) → old ≡ [] → count g new + before (known_of g o) y [] ≡ count g old + before (known_of g o) x p → count g new ≡ before (known_of g o) x p
 unfolding before
-counted g o old new x p none h =
+counted g o old new x y p none h =
     let k : count g new + 0 ≡ count g old + before (known_of g o) x p = h in
     let a : count g old ≡ 0 = ap (count g) none in
     omega (arith, a, k)
 
 -- what is there, is what it is said to be
 pub some_there : {X : Type 0} {r : Option X} {P : X → Type 0} {Q : Type 0} → (None ≡ r → ⊥) → IfSome r P → ((x : X) → P x → Q) → Q
-some_there {r = None} no h to = absurd (no refl)
-some_there {r = Some x} no h to = to x h
+some_there {r = None} never h to = absurd (never refl)
+some_there {r = Some x} never h to = to x h

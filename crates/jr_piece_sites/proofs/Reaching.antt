@@ -44,13 +44,13 @@ module _ {A : Type 0} where
 
 module _ {A : Type 0} (m : declared.Member A) (own : IsOwner m) (path : List ℕ) where
   pub to_exp : (e : tree.Exp A) → nodes.exp_at (nodes.member m) path ≡ Some e → LeadsToExp m path
-  to_exp e h = (own, e, h)
+  to_exp e h = (own, (e, h))
 
   pub at_exp : (e : tree.Exp A) → nodes.exp_at (nodes.member m) path ≡ Some e → Leads m path
-  at_exp e h = (own, piece.exp e, node_leads path (piece.member m) (piece.exp e) (exp_leads (piece.member m) own path e h))
+  at_exp e h = (own, (piece.exp e, node_leads path (piece.member m) (piece.exp e) (exp_leads (piece.member m) own path e h)))
 
   pub at_stmt : (s : statement.Stmt A) → nodes.stmt_at (nodes.member m) path ≡ Some s → Leads m path
-  at_stmt s h = (own, piece.stmt s, node_leads path (piece.member m) (piece.stmt s) (stmt_leads (piece.member m) own path s h))
+  at_stmt s h = (own, (piece.stmt s, node_leads path (piece.member m) (piece.stmt s) (stmt_leads (piece.member m) own path s h)))
 
   pub some_stmt : {X : Type 0} (f : X → statement.Stmt A) (r : Option X) → option_map f r ≡ nodes.stmt_at (nodes.member m) path → IsTrue (is_some r) → Leads m path
   some_stmt f None e h = absurd h
@@ -64,4 +64,4 @@ module _ {A : Type 0} (m : declared.Member A) (own : IsOwner m) (path : List ℕ
       let r = between from (to - from) body in
       let left = length-drop from (nodes.stmts body) in
       let all = length-take-le (to - from) (drop from (nodes.stmts body)) (omega (arith, left, low, high)) in
-      (own, piece.stmt s, at, r.list, record { ordered = low; are = r.is; all = ap length (sym r.is) ∙ all })
+      (own, (piece.stmt s, at, (r.list, record { ordered = low; are = r.is; all = ap length (sym r.is) ∙ all })))

@@ -6,7 +6,7 @@ use Rattle.jr_text.specs.declared.spans.Span.{Span}
 use Rattle.jr_ast.specs.MemberTree as declared
 use Rattle.jr_ast.specs.Nodes as nodes
 use Rattle.jr_ast.specs.Tree as tree
-use Rattle.jr_cover.specs.Spots.{Spot, onto, spot_exp}
+use Rattle.jr_cover.specs.Spots.{Spot, onto, spot_exp, spot_member}
 use Rattle.jr_expr_sites.specs.Routes.{begins_by, ends_by}
 use Rattle.jr_piece_sites.specs.Leads.{AllStmts, IsStmt, Leads, LeadsToExp, LeadsToParts, spots_of}
 use Rattle.jr_piece_sites.specs.Pieces as piece
@@ -29,19 +29,20 @@ module _ {A : Type 0} (tells : A → ℕ → Span) where
     there = place;
     leads = step_end (spotted tells base place x) ∙ ap (λ (z : Piece A). Some (spotted tells base place z)) (same_Some x y e);
   }
-  reaches (i ∷ path) x y base place e = go (part_of x i) refl e
+  reaches (i ∷ path) x y base place e = go (part_of x i) refl (λ c b p. reaches path c y b p) e
     where
-      go : (o : Option (Piece A)) → part_of x i ≡ o → option_and_then (λ c. piece_at c path) o ≡ Some y → Reached x base place (i ∷ path) y
-      go None is h = absurd (none-some y h)
-      go (Some c) is h =
+      go : (o : Option (Piece A)) → part_of x i ≡ o → ((c : Piece A) (b : ℕ) (p : List ℕ) → piece_at c path ≡ Some y → Reached c b p path y) → option_and_then (λ c. piece_at c path) o ≡ Some y → Reached x base place (i ∷ path) y
+      go None is on h = absurd (none-some y h)
+      go (Some c) is on h =
           let b = begins_by tells (mark_of x) base in
-          let r = reaches path c y b (onto place i) h in record {
+          let r = on c b (onto place i) h in record {
             at = r.at;
             there = r.there;
             leads = step_down (spotted tells base place x) (spotted tells b (onto place i) c) i path (part_spots tells x c base place i is) ∙ r.leads;
           }
 
   pub owner : (m : declared.Member A) (base : ℕ) → IsOwner m → IsOwner (spots_of tells base m)
+  unfolding spot_member
   owner (declared.field m mods t w init) base own = own
   owner (declared.method m mods t w ps body) base own = own
   owner (declared.constructor m mods w ps args body) base own = own
@@ -53,12 +54,12 @@ module _ {A : Type 0} (tells : A → ℕ → Span) where
     pub leads : piece_at (piece.member (spots_of tells base m)) path ≡ Some to
 
   pub some_at : (m : declared.Member A) (base : ℕ) (path : List ℕ) → Leads m path → At m base path
-  some_at m base path (own, y, e) =
+  some_at m base path (own, (y, e)) =
       let r = reaches path (piece.member m) y base [] (piece_leads (piece.member m) own path y e) in
       record { to = spotted tells r.at r.there y; leads = r.leads }
 
   pub exp_at : (m : declared.Member A) (base : ℕ) (path : List ℕ) → LeadsToExp m path → (f : tree.Exp Spot) × (piece_at (piece.member (spots_of tells base m)) path ≡ Some (piece.exp f))
-  exp_at m base path (own, e, is) =
+  exp_at m base path (own, (e, is)) =
       let r = reaches path (piece.member m) (piece.exp e) base [] (exp_leads (piece.member m) own path e is) in
       (spot_exp (begins_by tells) (ends_by tells) e r.at r.there, r.leads)
 
@@ -80,7 +81,7 @@ module _ {A : Type 0} (tells : A → ℕ → Span) where
     pub all : AllStmts of from (to - from)
 
   pub parts_at : (m : declared.Member A) (base : ℕ) (path : List ℕ) (from to : ℕ) → LeadsToParts m path from to → PartsAt m base path from to
-  parts_at m base path from to (own, y, e, ss, are) =
+  parts_at m base path from to (own, (y, e, (ss, are))) =
       let r = reaches path (piece.member m) y base [] (piece_leads (piece.member m) own path y e) in
       record {
         of = spotted tells r.at r.there y;
@@ -89,4 +90,4 @@ module _ {A : Type 0} (tells : A → ℕ → Span) where
       }
 
 pub ordered : {A : Type 0} (m : declared.Member A) (path : List ℕ) (from to : ℕ) → LeadsToParts m path from to → from ≤ to
-ordered m path from to (own, y, e, ss, are) = are.ordered
+ordered m path from to (own, (y, e, (ss, are))) = are.ordered

@@ -16,7 +16,7 @@ use Rattle.jr_piece_sites.specs.Pieces as piece
 use Rattle.jr_piece_sites.specs.Pieces.{Piece, part_of, piece_at, nth_stmt}
 use Rattle.jr_piece_sites.proofs.Descents.{step_down, step_end}
 
-module _ {A : Type 0} {f : tree.Exp A} where
+module _ {A : Type 0} (f : tree.Exp A) where
   abbrev Leads : Piece A → List ℕ → Type 0
   Leads x q = piece_at x q ≡ Some (piece.exp f)
 

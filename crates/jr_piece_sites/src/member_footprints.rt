@@ -59,13 +59,13 @@ pub fn footprint<A: Mark, F: Facts>(
         start: member.mark.span(base).from,
         never_null,
     };
-    let Some(found) = piece_at(member, base, &path.steps) else {
-        unreachable!()
-    };
-    match found.of {
-        Piece::Expr(of) => expr_footprint(alloc, &here, path, found.base, of),
-        Piece::Stmt(_) => unreachable!(),
-        Piece::Member(_) => unreachable!(),
+    match piece_at(member, base, &path.steps) {
+        None => unreachable!(),
+        Some(found) => match found.of {
+            Piece::Expr(of) => expr_footprint(alloc, &here, path, found.base, of),
+            Piece::Stmt(_) => unreachable!(),
+            Piece::Member(_) => unreachable!(),
+        },
     }
 }
 

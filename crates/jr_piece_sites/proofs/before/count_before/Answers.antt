@@ -18,8 +18,8 @@ use Rattle.jr_piece_sites.specs.Fronts.{before}
 use Rattle.jr_piece_sites.specs.Growth.{count}
 use Rattle.jr_piece_sites.proofs.before.count_before.Goals as goal
 
-pub reach-reached-requires : goal.reach-reached-requires
-reach-reached-requires g c = record { fits = c.requires.fits; begins = c.requires.start }
+pub reach-requires : goal.reach-requires
+reach-requires g c = record { fits = c.requires.fits; begins = c.requires.start }
 
 pub descend-requires : goal.descend-requires
 descend-requires g c =
@@ -29,7 +29,7 @@ descend-requires g c =
     let m = member_of c.args.member.now in
     let base = c.args.base in
     let outer = c.args.outer.now.steps.items in
-    let first = subst (λ r. IfSome r (λ f. Descended T F G 0 base [] (pure.member m) outer [] f.number f.base (piece_of f.of) outer c.new-passed.result.items c.reach-reached.new.out.items)) c.in-Some.is c.in_ok-reached.ensures.found in
+    let first = subst (λ r. IfSome r (λ f. Descended T F G 0 base [] (pure.member m) outer [] f.number f.base (piece_of f.of) outer c.new-passed.result.items c.reach.new.out.items)) c.in-Some.is c.in_ok-reached.ensures.found in
     record { fits = first.fits; begins = first.start }
 
 pub unreachable-requires : goal.unreachable-requires
@@ -47,8 +47,8 @@ unreachable-requires g c =
     let no = c.in_ok-reached.ensures.none (sym c.in-None.is) in
     none-some z (ap on no ∙ leads)
 
-pub returns-in-Some : goal.returns-in-Some
-returns-in-Some g c o numbers y at =
+pub returns : goal.returns
+returns g c o numbers y at =
     let T = g.A.Mark.span_from in
     let F = g.A.Mark.fits_at in
     let G = given g.F.Facts.decls g.F.Facts.types c.args.here.now in
@@ -61,7 +61,7 @@ returns-in-Some g c o numbers y at =
     let z = found.to in
     let leads = sym (down.through outer path x) ∙ found.leads in
     let on = λ (o : Option (Piece Spot)). option_and_then (λ (y : Piece Spot). piece_at y path) o in
-    let first = subst (λ r. IfSome r (λ f. Descended T F G 0 base [] (pure.member m) outer [] f.number f.base (piece_of f.of) outer c.new-passed.result.items c.reach-reached.new.out.items)) c.in-Some.is c.in_ok-reached.ensures.found in
+    let first = subst (λ r. IfSome r (λ f. Descended T F G 0 base [] (pure.member m) outer [] f.number f.base (piece_of f.of) outer c.new-passed.result.items c.reach.new.out.items)) c.in-Some.is c.in_ok-reached.ensures.found in
     let f = c.in-Some.found in
     let here = spotted T f.base outer (piece_of f.of) in
     let there = sym (down.step_end here) ∙ first.leads in
@@ -69,7 +69,7 @@ returns-in-Some g c o numbers y at =
     let all = c.deref.result.now in
     let new = c.descend.new.out.items in
     let last : before (known_of G o) here all ≡ before (known_of G o) y path = (λ i. before (known_of G o) (same i) (c.deref.ensures.value i)) in
-    down.some_there (λ e. none-some z (c.in_ok-descend.ensures.none e ∙ ap (piece_at here) c.deref.ensures.value ∙ ap on there ∙ leads)) c.in_ok-descend.ensures.found (λ h second.
-    growth.if_ok_then c.count_sites.result (λ n k. k ∙ ap (count G) c.deref-2.ensures.value
-    ∙ down.counted G o c.new-steps.result.items new here all c.new-steps.ensures.items (second.grown o (first.numbers o (refl, numbers)))
+    down.some_there (λ e. none-some z (c.in_ok-descend-in-Some.ensures.none e ∙ ap (piece_at here) c.deref.ensures.value ∙ ap on there ∙ leads)) c.in_ok-descend-in-Some.ensures.found (λ h second.
+    growth.if_ok_then c.count_sites.result (λ n k. k ∙ ap (count G) c.deref-in-Some.ensures.value
+    ∙ down.counted G o c.new-steps.result.items new here (spotted T h.base (outer ++ all) (piece_of h.of)) all c.new-steps.ensures.items (second.grown o (first.numbers o (refl, numbers)))
     ∙ last) c.count_sites.ensures)

@@ -6,8 +6,8 @@ use Rattle.jr_expr_sites.specs.Steps.{sites_in}
 use Rattle.std.proofs.lemmas.List.{length-map}
 use Rattle.jr_piece_sites.proofs.before.count_sites.Goals as goal
 
-pub returns-in-Ok : goal.returns-in-Ok
-returns-in-Ok g c =
+pub returns : goal.returns
+returns g c =
     let G = given g.F.Facts.decls g.F.Facts.types c.args.here.now in
     let sites = c.in_ok-sites.sites.items in
     let a = length-map sites placed_of in

@@ -33,8 +33,8 @@ pub span-requires : goal.span-requires
 span-requires g c =
     subst (λ (x : g.row.A.Denot). g.A.Mark.fits_at x c.args.base) (member_mark_is c.args.member.now) (member_own g.A.Mark.span_from g.A.Mark.fits_at c.args.base (member_of c.args.member.now) c.requires.fits)
 
-pub reach-reached-requires : goal.reach-reached-requires
-reach-reached-requires g c = record { fits = c.requires.fits; begins = ap (λ (z : Span). z.from) c.span.ensures }
+pub reach-requires : goal.reach-requires
+reach-requires g c = record { fits = c.requires.fits; begins = ap (λ (z : Span). z.from) c.span.ensures }
 
 pub unreachable-requires : goal.unreachable-requires
 unreachable-requires g c =
@@ -60,7 +60,7 @@ parts_footprint-requires g c =
     let parts = spotted_path.parts_at T m base list c.args.from c.args.to c.requires.at in
     let z = parts.of in
     let leads = parts.leads in
-    let first = subst (λ r. IfSome r (λ f. Descended T F G 0 base [] (pure.member m) list [] f.number f.base (piece_of f.of) list c.new-passed.result.items c.reach-reached.new.out.items)) c.in-Some.is c.in_ok-reached.ensures.found in
+    let first = subst (λ r. IfSome r (λ f. Descended T F G 0 base [] (pure.member m) list [] f.number f.base (piece_of f.of) list c.new-passed.result.items c.reach.new.out.items)) c.in-Some.is c.in_ok-reached.ensures.found in
     let f = c.in-Some.found in
     let here = spotted T f.base list (piece_of f.of) in
     let same_piece : here ≡ z = same_Some here z (sym (down.step_end here) ∙ first.leads ∙ leads) in
@@ -72,8 +72,8 @@ parts_footprint-requires g c =
       all = all_there T (piece_of f.of) f.base list c.args.from (c.args.to - c.args.from) there;
     }
 
-pub returns-in-Some : goal.returns-in-Some
-returns-in-Some g c o numbers n at ss is =
+pub returns : goal.returns
+returns g c o numbers n at ss is =
     let T = g.A.Mark.span_from in
     let F = g.A.Mark.fits_at in
     let m = member_of c.args.member.now in
@@ -88,7 +88,7 @@ returns-in-Some g c o numbers n at ss is =
     let parts = spotted_path.parts_at T m base list c.args.from c.args.to c.requires.at in
     let z = parts.of in
     let leads = parts.leads in
-    let first = subst (λ r. IfSome r (λ f. Descended T F G 0 base [] (pure.member m) list [] f.number f.base (piece_of f.of) list c.new-passed.result.items c.reach-reached.new.out.items)) c.in-Some.is c.in_ok-reached.ensures.found in
+    let first = subst (λ r. IfSome r (λ f. Descended T F G 0 base [] (pure.member m) list [] f.number f.base (piece_of f.of) list c.new-passed.result.items c.reach.new.out.items)) c.in-Some.is c.in_ok-reached.ensures.found in
     let f = c.in-Some.found in
     let here = spotted T f.base list (piece_of f.of) in
     let same_piece : here ≡ z = same_Some here z (sym (down.step_end here) ∙ first.leads ∙ leads) in

@@ -13,8 +13,8 @@ use Rattle.jr_code.specs.RunKeys.{RunKeys}
 use Rattle.jr_piece_sites.specs.PartSites.{parts_sites}
 use Rattle.jr_piece_sites.proofs.member_footprints.parts_footprint.Goals as goal
 
-pub front-number-requires : goal.front-number-requires
-front-number-requires g c = record { fits = c.requires.fits; start = c.requires.start }
+pub front-requires : goal.front-requires
+front-requires g c = record { fits = c.requires.fits; start = c.requires.start }
 
 pub put_parts-requires : goal.put_parts-requires
 put_parts-requires g c = record { fits = c.requires.fits; ordered = c.requires.ordered; all = c.requires.all; number = c.in_ok-number.ensures.number }

@@ -16,8 +16,8 @@ stmt-requires g c =
     let F = g.A.Mark.fits_at in
     record { fits = subst (λ x. FitsPiece T F c.args.at (piece_of x)) c.in-Stmt.is c.requires.fits }
 
-pub returns-in-Stmt : goal.returns-in-Stmt
-returns-in-Stmt g c =
+pub returns-in_ok-place-in-Stmt : goal.returns-in_ok-place-in-Stmt
+returns-in_ok-place-in-Stmt g c =
     let T = g.A.Mark.span_from in
     let G = given g.F.Facts.decls g.F.Facts.types c.args.here.now in
     let path = c.args.path.now.steps.items in
@@ -25,7 +25,7 @@ returns-in-Stmt g c =
     let new = c.stmt.new.out.items in
     let s = stmt_of c.in-Stmt.of.now in
     subst (λ x. IfOk c.stmt.result (λ n. PartPut T G c.args.number c.args.at (path ++ c.args.step ∷ []) (Some (piece_of x)) n old new)) (sym c.in-Stmt.is)
-    (subst (λ (q : List ℕ). IfOk c.stmt.result (λ n. Passed G (Numbered T c.args.number q c.args.at s) (list.stmt T q c.args.at s) (c.args.number + locals_in s) n old new)) c.in_ok-place.ensures c.stmt.ensures)
+    (subst (λ (q : List ℕ). IfOk c.stmt.result (λ n. Passed G (Numbered T c.args.number q c.args.at s) (list.stmt T q c.args.at s) (c.args.number + locals_in s) n old new)) c.in_ok-place-in-Stmt.ensures c.stmt.ensures)
 
 pub returns-in-Member : goal.returns-in-Member
 returns-in-Member g c =

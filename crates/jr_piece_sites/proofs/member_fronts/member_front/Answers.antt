@@ -33,7 +33,7 @@ method_front-requires g c =
     let start = c.requires.start in
     let is : member_of c.args.of.now ≡ declared.method m (map modifier_of c.in-Method.modifiers.items) (option_map type_of c.in-Method.ret) (word_of c.in-Method.name) (map param_of c.in-Method.params.items) (stmts_of c.in-Method.body.items) = ap (member_kind m) c.in-Method.is in
     let f = subst (λ (x : declared.Member g.row.A.Denot). FitsSites T F base x) is c.requires.fits in
-    record { fits = subst (λ (n : ℕ). FitsStmts (begins_by T) F n (stmts_of c.deref-3.result.now)) (sym start) (subst (λ (xs : List (Stmt g.row.A.Denot)). FitsStmts (begins_by T) F (begins_by T m base) (stmts_of xs)) (sym c.deref-3.ensures.value) f.2) }
+    record { fits = subst (λ (n : ℕ). FitsStmts (begins_by T) F n (stmts_of c.deref-in-Method-2.result.now)) (sym start) (subst (λ (xs : List (Stmt g.row.A.Denot)). FitsStmts (begins_by T) F (begins_by T m base) (stmts_of xs)) (sym c.deref-in-Method-2.ensures.value) f.2) }
 
 pub constructor_front-requires : goal.constructor_front-requires
 unfolding member_kind class_of member_row
@@ -98,7 +98,7 @@ returns-in-Method g c =
     let all = λ (ms : List (Modifier g.row.A.Denot)) (ps : List (Param g.row.A.Denot)) (ss : List (Stmt g.row.A.Denot)) (k : ℕ). GrownTo G (NumberedAll T (length (map param_of ps)) path (method_front (map modifier_of ms) t (map param_of ps)) at (stmts_of ss))
     (λ o. behind 0 (method_front (map modifier_of ms) t (map param_of ps)) (method_body (known_of G o) (is_synchronized (map modifier_of ms)) (spot_stmts (begins_by T) (ends_by T) (stmts_of ss) at path (method_front (map modifier_of ms) t (map param_of ps)))) i)
     (length (map param_of ps) + behind 0 (method_front (map modifier_of ms) t (map param_of ps)) (locals_up_to (stmts_of ss)) i) k old new in
-    growth.if_ok_then c.method_front.result (λ k p. subst (λ (x : declared.Member g.row.A.Denot). arm.Whole T base m at start G path i old x k new) (sym is) (arm.method_put T base m at start G path i old (map modifier_of c.in-Method.modifiers.items) t (word_of c.in-Method.name) (map param_of c.in-Method.params.items) (stmts_of c.in-Method.body.items) k new (subst (λ (X : Type 0). X) (λ z. all (c.deref.ensures.value z) (c.deref-2.ensures.value z) (c.deref-3.ensures.value z) k) p))) c.method_front.ensures
+    growth.if_ok_then c.method_front.result (λ k p. subst (λ (x : declared.Member g.row.A.Denot). arm.Whole T base m at start G path i old x k new) (sym is) (arm.method_put T base m at start G path i old (map modifier_of c.in-Method.modifiers.items) t (word_of c.in-Method.name) (map param_of c.in-Method.params.items) (stmts_of c.in-Method.body.items) k new (subst (λ (X : Type 0). X) (λ z. all (c.deref.ensures.value z) (c.deref-in-Method.ensures.value z) (c.deref-in-Method-2.ensures.value z) k) p))) c.method_front.ensures
 
 pub returns-in-Ctor : goal.returns-in-Ctor
 unfolding member_kind class_of member_row

@@ -72,7 +72,7 @@ returns-clause-of_expression g c o numbers outer rest is s there e way goes eval
     let y = leading.stmt_leads whole (spotted_path.owner T m base c.requires.at.0) outer s there in
     let at = member_within X s outer (λ _. k) (λ _. place G (member_route.called_at T super_at base m)) (spots_of T base m) y in
     let on = λ (p : Option (Piece Spot)). option_and_then (λ (x : Piece Spot). piece_at x rest) p in
-    let found = ap (piece_at whole) is ∙ through outer rest whole ∙ ap on y ∙ ap (piece_at (pure.stmt s)) (sym goes) ∙ way_path.stmt_leads s way in
+    let found = ap (piece_at whole) is ∙ through outer rest whole ∙ ap on y ∙ ap (piece_at (pure.stmt s)) (sym goes) ∙ way_path.stmt_leads e s way in
     let front = ap (before X whole) is ∙ way_path.both_paths X outer rest whole (pure.stmt s) y
     ∙ ap (λ (n : ℕ). before X whole outer + n) (ap (before X (pure.stmt s)) (sym goes) ∙ stmt_counts X s way) in
     subst (λ (q : Given). IfOk c.range_at.result (λ r. HasRange (sites_of (w q)) (sites_of (exp_way (known_of q o) e)) r.from r.to)) same
