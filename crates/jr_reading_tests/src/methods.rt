@@ -73,11 +73,17 @@ fn bind_key<L: Ledger>(
     bind_member(alloc, table, units, key, 0, &mut steps).expect(rt, "memory")
 }
 
-/// What is asked of a method, or of one of its parts.
-fn tell_asked(rt: &impl Abort, alloc: Global, method: &Method<'_>, kind: &str, part: &str) -> String
-    requires key { (k : decls.MemberKey) → HasKey k (member_of method.now.of.now) }
-    requires owner { IsOwner (member_of method.now.of.now) }
-{
+/// What is asked of a method, or of one of its parts; of another member nothing.
+fn tell_asked(
+    rt: &impl Abort,
+    alloc: Global,
+    method: &Method<'_>,
+    kind: &str,
+    part: &str,
+) -> String {
+    if !is_method(method.of) {
+        return String::new(alloc);
+    }
     match kind {
         "graph" | "list" | "count" => {
             let made = member_graph(alloc, method.table, method.of, method.base, 0, method.bound);
@@ -87,7 +93,7 @@ fn tell_asked(rt: &impl Abort, alloc: Global, method: &Method<'_>, kind: &str, p
     }
 }
 
-/// The same of what is written, if it is a method.
+/// The same of what is written.
 fn tell_written(
     rt: &impl Abort,
     alloc: Global,
@@ -97,21 +103,22 @@ fn tell_written(
     kind: &str,
     part: &str,
 ) -> String {
-    let PartRef::Member(of) = &written.part else {
-        return String::new(alloc);
-    };
-    if !is_method(of) {
-        return String::new(alloc);
+    match &written.part {
+        PartRef::Head(_) => String::new(alloc),
+        PartRef::Member(of) => {
+            let base = written.base;
+            let flags = own_flags(alloc, table, of, base, bound).expect(rt, "memory");
+            let flags = flags.as_slice();
+            let method = Method {
+                table,
+                of: *of,
+                base,
+                bound,
+                flags,
+            };
+            tell_asked(rt, alloc, &method, kind, part)
+        }
     }
-    let flags = own_flags(alloc, table, of, written.base, bound).expect(rt, "memory");
-    let method = Method {
-        table,
-        of,
-        base: written.base,
-        bound,
-        flags: flags.as_slice(),
-    };
-    tell_asked(rt, alloc, &method, kind, part)
 }
 
 /// What is asked of the first method of a text.

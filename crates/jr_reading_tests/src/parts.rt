@@ -1,5 +1,6 @@
 //! What is asked of a part of a method, to which a path leads.
-ghost use Rattle.std.specs.Prelude.{◌≡◌, ◌≤◌, ◌++◌, IsTrue, IfSome};
+ghost use Rattle.std.specs.Prelude.{◌≡◌, ◌≤◌, ◌++◌, IsTrue, IfSome, length};
+ghost use Rattle.jr_ast.specs.Nodes as nodes;
 ghost use Rattle.jr_ast.specs.StatementTree as statement;
 ghost use Rattle.jr_ast.specs.View.{member_of, stmt_of, stmts_of};
 ghost use Rattle.jr_piece_sites.specs.Leads.{Leads, LeadsToParts};
@@ -65,18 +66,33 @@ fn block_of(of: &Stmt<Span>) -> Option<&[Stmt<Span>]>
     }
 }
 
+fn are_in(from: u32, to: u32, count: usize) -> bool
+    ensures { IsTrue result → (from ≤ to) × (to ≤ count) }
+{
+    from <= to && to as usize <= count
+}
+
+/// Whether it is a block that has statements of these numbers.
+fn holds(of: &Stmt<Span>, from: u32, to: u32) -> bool
+    ensures { IsTrue result → (body : statement.Stmts Span)
+        × (stmt_of of.now ≡ statement.block of.now.mark body)
+        × (from ≤ to) × (to ≤ length (nodes.stmts body)) }
+{
+    match block_of(of) {
+        None => false,
+        Some(body) => are_in(from, to, body.len()),
+    }
+}
+
 /// Whether the path leads to a block that has statements of these numbers.
 fn has_parts(of: &Member<Span>, list: &Path, from: u32, to: u32) -> bool
     requires { IsOwner (member_of of.now) }
     ensures { IsTrue result → LeadsToParts (member_of of.now) list.now.steps.items from to }
 {
-    let Some(stmt) = of.stmt_at(list) else {
-        return false;
-    };
-    let Some(body) = block_of(stmt) else {
-        return false;
-    };
-    from <= to && to as usize <= body.len()
+    match of.stmt_at(list) {
+        None => false,
+        Some(stmt) => holds(stmt, from, to),
+    }
 }
 
 /// The footprint of an expression.
@@ -103,13 +119,13 @@ fn tell_parts(rt: &impl Abort, alloc: Global, method: &Method<'_>, part: &str) -
     let (from, to) = cut_at(numbers, " ");
     let list = path_of(rt, alloc, list);
     let (from, to) = (number(rt, from), number(rt, to));
-    if !has_parts(method.of, &list, from, to) {
-        return String::new(alloc);
+    if has_parts(method.of, &list, from, to) {
+        let (table, bound, flags) = (method.table, method.bound, method.flags);
+        let base = method.base;
+        let sites = footprint_of(alloc, table, method.of, base, &list, from, to, bound, flags);
+        return tell_sites(rt, alloc, sites.expect(rt, "memory").as_slice());
     }
-    let (table, bound, flags) = (method.table, method.bound, method.flags);
-    let base = method.base;
-    let sites = footprint_of(alloc, table, method.of, base, &list, from, to, bound, flags);
-    tell_sites(rt, alloc, sites.expect(rt, "memory").as_slice())
+    String::new(alloc)
 }
 
 /// How many sites of one part stand in front of another, whose path goes on from there.
@@ -120,27 +136,27 @@ fn tell_before(rt: &impl Abort, alloc: Global, method: &Method<'_>, part: &str) 
     let outer = path_of(rt, alloc, outer);
     let path = path_of(rt, alloc, path);
     let whole = both(rt, alloc, &outer, &path);
-    if !leads(method.of, &whole) {
-        return String::new(alloc);
+    if leads(method.of, &whole) {
+        let (table, bound, flags) = (method.table, method.bound, method.flags);
+        let base = method.base;
+        let count = sites_before(alloc, table, method.of, base, &outer, &path, bound, flags);
+        let count = count.expect(rt, "memory");
+        return format!(in alloc; "{count}").expect(rt, "memory");
     }
-    let (table, bound, flags) = (method.table, method.bound, method.flags);
-    let base = method.base;
-    let count = sites_before(alloc, table, method.of, base, &outer, &path, bound, flags);
-    let count = count.expect(rt, "memory");
-    format!(in alloc; "{count}").expect(rt, "memory")
+    String::new(alloc)
 }
 
 fn tell_range(rt: &impl Abort, alloc: Global, method: &Method<'_>, part: &str) -> String
     requires owner { IsOwner (member_of method.now.of.now) }
 {
     let path = path_of(rt, alloc, part);
-    if !leads(method.of, &path) {
-        return String::new(alloc);
+    if leads(method.of, &path) {
+        let (table, bound, flags) = (method.table, method.bound, method.flags);
+        let range = site_range(alloc, table, method.of, method.base, &path, bound, flags);
+        let range = range.expect(rt, "memory");
+        return format!(in alloc; "{}-{}", range.from, range.to).expect(rt, "memory");
     }
-    let (table, bound, flags) = (method.table, method.bound, method.flags);
-    let range = site_range(alloc, table, method.of, method.base, &path, bound, flags);
-    let range = range.expect(rt, "memory");
-    format!(in alloc; "{}-{}", range.from, range.to).expect(rt, "memory")
+    String::new(alloc)
 }
 
 fn tell_never_null(rt: &impl Abort, alloc: Global, method: &Method<'_>, part: &str) -> String {

@@ -1,0 +1,13 @@
+use Rattle.jr_table.specs.KeyView.{member_key_of}
+use Rattle.jr_ast.specs.View.{member_of}
+use Rattle.jr_table.specs.Errors.{member_part}
+use Rattle.jr_dependence_lines.proofs.SpansFit.{sites_fit}
+use Rattle.jr_program_laws.specs.FileParts.{begins}
+use Rattle.jr_sources.proofs.PartsFit.{whole_fits}
+use Rattle.jr_reading_tests.proofs.methods.tell_asked.Goals as goal
+
+pub member_graph-made-requires : goal.member_graph-made-requires
+member_graph-made-requires g c = record {
+  fits = sites_fit c.args.method.now.base (member_of c.args.method.now.of.now) (whole_fits begins c.args.method.now.base (member_part (member_of c.args.method.now.of.now)));
+  key = c.is_method.ensures.key c.if-is_method.true _;
+}
