@@ -140,7 +140,7 @@ fn put_parts<'a, F: Facts, A: Mark>(
         (spotted A.span_from found.entry.base path.now.steps.items (piece_of found.entry.of)) from
         (to - from) out.old.items out.new.items) }
 {
-    let at = begin(found.of, found.base);
+    let at = begin(&found.of, found.base);
     let mut number = number;
     for step in from..to {
         number = put_part(
@@ -150,7 +150,7 @@ fn put_parts<'a, F: Facts, A: Mark>(
             at,
             number,
             step,
-            part(found.of, step),
+            part(&found.of, step),
             out,
         )?;
     }
@@ -180,7 +180,7 @@ fn parts_footprint<F: Facts, A: Mark>(
         (to - from))) }
 {
     let mut passed = Vec::new(alloc);
-    let number = front(alloc, here, path, found, from, &mut passed)?;
+    let number = front(alloc, here, path, &found, from, &mut passed)?;
     let mut steps = Vec::new(alloc);
     put_parts(alloc, here, path, found, number, from, to, &mut steps)?;
     placed_sites(alloc, here, &steps)

@@ -1,5 +1,5 @@
 //! The pieces of a member, by their paths.
-ghost use Rattle.std.specs.Prelude.{◌≡◌, ◌+◌, ◌-◌, ◌≤◌, [], suc, length, map, None, IfSome, SomeIff, option_map, ⊤};
+ghost use Rattle.std.specs.Prelude.{◌≡◌, ◌+◌, ◌-◌, ◌≤◌, [], suc, length, map, None, IfSome, SomeIff, option_map};
 ghost use Rattle.jr_ast.specs.View.{args_of, else_of, expr_of, exprs_of, member_of};
 ghost use Rattle.jr_ast.specs.View.{modifier_of, param_of, stmt_of, stmts_of, type_of};
 ghost use Rattle.jr_expr_sites.specs.Routes.{begins_by};
@@ -11,25 +11,12 @@ ghost use Rattle.jr_piece_sites.specs.PieceView.{piece_of};
 use crate::parts::{expr_in, nth, only, parts_of};
 use jr_ast::{Expr, Member, MemberKind, Modifier, Param, Stmt, StmtKind, TypeRef};
 use jr_text::Mark;
-use std::alloc::AllocError;
 
 /// A member, or a statement or an expression in it.
 pub(crate) enum Piece<'a, A> {
     Member(&'a Member<A>),
     Stmt(&'a Stmt<A>),
     Expr(&'a Expr<A>),
-}
-
-impl<A> Copy for Piece<'_, A> {}
-
-impl<A> Clone for Piece<'_, A> {
-    ghost is_clone = { λ x y. y ≡ x };
-
-    ghost is_infallible = { λ _. ⊤ };
-
-    fn clone(&self) -> Result<Self, AllocError> {
-        Ok(*self)
-    }
 }
 
 /// The expression, if it has the number.
@@ -275,20 +262,20 @@ fn expr_part<A>(of: &Expr<A>, number: u32) -> Option<Piece<'_, A>>
 }
 
 /// The part of this number, if it is an expression or a statement.
-pub(crate) fn part<A>(of: Piece<'_, A>, number: u32) -> Option<Piece<'_, A>>
-    ensures { option_map piece_of result ≡ pure.part_of (piece_of of.entry) number }
+pub(crate) fn part<'a, A>(of: &Piece<'a, A>, number: u32) -> Option<Piece<'a, A>>
+    ensures { option_map piece_of result ≡ pure.part_of (piece_of of.now) number }
 {
     match of {
-        Piece::Member(of) => member_part(of, number),
-        Piece::Stmt(of) => stmt_part(of, number),
-        Piece::Expr(of) => expr_part(of, number),
+        Piece::Member(of) => member_part(*of, number),
+        Piece::Stmt(of) => stmt_part(*of, number),
+        Piece::Expr(of) => expr_part(*of, number),
     }
 }
 
 /// The first byte of a piece whose parent begins at `base`.
-pub(crate) fn begin<A: Mark>(of: Piece<'_, A>, base: u32) -> u32
-    requires fits { FitsPiece A.span_from A.fits_at base (piece_of of) }
-    ensures { result ≡ begins_by A.span_from (pure.mark_of (piece_of of.entry)) base }
+pub(crate) fn begin<A: Mark>(of: &Piece<'_, A>, base: u32) -> u32
+    requires fits { FitsPiece A.span_from A.fits_at base (piece_of of.now) }
+    ensures { result ≡ begins_by A.span_from (pure.mark_of (piece_of of.now)) base }
 {
     match of {
         Piece::Member(of) => of.mark.span(base).from,
@@ -301,18 +288,6 @@ pub(crate) fn begin<A: Mark>(of: Piece<'_, A>, base: u32) -> u32
 pub(crate) struct Placed<'a, A> {
     pub(crate) of: Piece<'a, A>,
     pub(crate) base: u32,
-}
-
-impl<A> Copy for Placed<'_, A> {}
-
-impl<A> Clone for Placed<'_, A> {
-    ghost is_clone = { λ x y. y ≡ x };
-
-    ghost is_infallible = { λ _. ⊤ };
-
-    fn clone(&self) -> Result<Self, AllocError> {
-        Ok(*self)
-    }
 }
 
 /// The piece to which a path leads from a member whose parent begins at `base`.
@@ -330,8 +305,8 @@ pub(crate) fn piece_at<'a, A: Mark>(
     let mut of = Piece::Member(member);
     let mut base = base;
     for step in steps {
-        let at = begin(of, base);
-        of = part(of, *step)?;
+        let at = begin(&of, base);
+        of = part(&of, *step)?;
         base = at;
     }
     Some(Placed { of, base })

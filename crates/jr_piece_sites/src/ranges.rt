@@ -1,5 +1,5 @@
 //! The way down a path, and what stands in front on it.
-ghost use Rattle.std.specs.Prelude.{◌≡◌, ◌++◌, [], None, IfOk, IfSome, ⊤};
+ghost use Rattle.std.specs.Prelude.{◌≡◌, ◌++◌, [], None, IfOk, IfSome};
 ghost use Rattle.jr_ast.specs.View.{member_of};
 ghost use Rattle.jr_cfg.specs.MemberRoutes.{FitsSites};
 ghost use Rattle.jr_expr_sites.specs.KnownFacts.{known_of};
@@ -31,18 +31,6 @@ pub(crate) struct Found<'a, A> {
     pub(crate) number: u32,
 }
 
-impl<A> Copy for Found<'_, A> {}
-
-impl<A> Clone for Found<'_, A> {
-    ghost is_clone = { λ x y. y ≡ x };
-
-    ghost is_infallible = { λ _. ⊤ };
-
-    fn clone(&self) -> Result<Self, AllocError> {
-        Ok(*self)
-    }
-}
-
 /// A member whose parent begins at `base`.
 pub(crate) fn whole<A>(member: &Member<A>, base: u32) -> Found<'_, A>
     ensures of { piece_of result.of ≡ piece.member (member_of member.now) }
@@ -62,25 +50,25 @@ pub(crate) fn front<'a, F: Facts, A: Mark>(
     alloc: Global,
     here: &Here<'a, F>,
     path: &Path,
-    found: Found<'_, A>,
+    found: &Found<'_, A>,
     part: u32,
     out: &mut Vec<Step<'a>>,
 ) -> Result<u32, AllocError>
-    requires fits { FitsPiece A.span_from A.fits_at found.base (piece_of found.of) }
-    requires start { StartsAt A.span_from found.base here.now.start (piece_of found.of) }
+    requires fits { FitsPiece A.span_from A.fits_at found.now.base (piece_of found.now.of) }
+    requires start { StartsAt A.span_from found.now.base here.now.start (piece_of found.now.of) }
     ensures { IfOk result (λ n. GrownTo (given F.decls F.types here.now)
-        (NumbersPiece A.span_from found.entry.number found.entry.base path.now.steps.items
-        (piece_of found.entry.of))
+        (NumbersPiece A.span_from found.now.number found.now.base path.now.steps.items
+        (piece_of found.now.of))
         (λ o. pure.front (known_of (given F.decls F.types here.now) o)
-        (spotted A.span_from found.entry.base path.now.steps.items (piece_of found.entry.of)) part)
-        (piece.first_number found.entry.number (piece_of found.entry.of) part) n
+        (spotted A.span_from found.now.base path.now.steps.items (piece_of found.now.of)) part)
+        (piece.first_number found.now.number (piece_of found.now.of) part) n
         out.old.items out.new.items) }
 {
-    match found.of {
-        Piece::Member(of) => member_front(alloc, here, path, found.base, of, part, out),
-        Piece::Stmt(of) => stmt_front(alloc, here, path, found.base, found.number, of, part, out),
+    match &found.of {
+        Piece::Member(of) => member_front(alloc, here, path, found.base, *of, part, out),
+        Piece::Stmt(of) => stmt_front(alloc, here, path, found.base, found.number, *of, part, out),
         Piece::Expr(of) => {
-            expr_front(alloc, here, path, found.base, of, part, out)?;
+            expr_front(alloc, here, path, found.base, *of, part, out)?;
             Ok(found.number)
         }
     }
@@ -112,9 +100,9 @@ pub(crate) fn descend<'a, 'b, F: Facts, A: Mark>(
     place.steps.extend_from_slice(path.steps.as_slice())?;
     let mut found = start;
     for step in steps {
-        let number = front(alloc, here, &place, found, *step, out)?;
-        let at = begin(found.of, found.base);
-        let Some(of) = part(found.of, *step) else {
+        let number = front(alloc, here, &place, &found, *step, out)?;
+        let at = begin(&found.of, found.base);
+        let Some(of) = part(&found.of, *step) else {
             return Ok(None);
         };
         place.steps.push(*step)?;

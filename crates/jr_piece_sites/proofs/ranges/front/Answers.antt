@@ -17,7 +17,7 @@ pub member_front-requires : goal.member_front-requires
 member_front-requires g c =
     let T = g.A.Mark.span_from in
     let F = g.A.Mark.fits_at in
-    let fb = c.args.found.base in
+    let fb = c.args.found.now.base in
     let s = subst (λ (y : raw.Piece g.row.A.Denot). StartsAt T fb c.args.here.now.start (piece_of y)) c.in-Member.is c.requires.start in
     record { fits = subst (λ (y : raw.Piece g.row.A.Denot). FitsPiece T F fb (piece_of y)) c.in-Member.is c.requires.fits; start = s ∙ ap (λ (m : g.row.A.Denot). begins_by T m fb) (member_mark_is c.in-Member.of.now) }
 
@@ -25,14 +25,14 @@ pub stmt_front-requires : goal.stmt_front-requires
 stmt_front-requires g c =
     let T = g.A.Mark.span_from in
     let F = g.A.Mark.fits_at in
-    let fb = c.args.found.base in
+    let fb = c.args.found.now.base in
     record { fits = subst (λ (y : raw.Piece g.row.A.Denot). FitsPiece T F fb (piece_of y)) c.in-Stmt.is c.requires.fits }
 
 pub expr_front-requires : goal.expr_front-requires
 expr_front-requires g c =
     let T = g.A.Mark.span_from in
     let F = g.A.Mark.fits_at in
-    let fb = c.args.found.base in
+    let fb = c.args.found.now.base in
     record { fits = subst (λ (y : raw.Piece g.row.A.Denot). FitsPiece T F fb (piece_of y)) c.in-Expr.is c.requires.fits }
 
 pub returns-in-Member : goal.returns-in-Member
@@ -41,8 +41,8 @@ returns-in-Member g c =
     let G = given g.F.Facts.decls g.F.Facts.types c.args.here.now in
     let path = c.args.path.now.steps.items in
     let old = c.args.out.now.items in
-    let fn = c.args.found.number in
-    let fb = c.args.found.base in
+    let fn = c.args.found.now.number in
+    let fb = c.args.found.now.base in
     let new = c.member_front.new.out.items in
     growth.if_ok_then c.member_front.result (λ k p. subst (λ (y : raw.Piece g.row.A.Denot). GrownTo G (NumbersPiece T fn fb path (piece_of y)) (λ o. front (known_of G o) (spotted T fb path (piece_of y)) c.args.part) (first_number fn (piece_of y) c.args.part) k old new) (sym c.in-Member.is) (record { number = p.number; grown = p.grown })) c.member_front.ensures
 
@@ -52,8 +52,8 @@ returns-in-Stmt g c =
     let G = given g.F.Facts.decls g.F.Facts.types c.args.here.now in
     let path = c.args.path.now.steps.items in
     let old = c.args.out.now.items in
-    let fn = c.args.found.number in
-    let fb = c.args.found.base in
+    let fn = c.args.found.now.number in
+    let fb = c.args.found.now.base in
     let new = c.stmt_front.new.out.items in
     growth.if_ok_then c.stmt_front.result (λ k p. subst (λ (y : raw.Piece g.row.A.Denot). GrownTo G (NumbersPiece T fn fb path (piece_of y)) (λ o. front (known_of G o) (spotted T fb path (piece_of y)) c.args.part) (first_number fn (piece_of y) c.args.part) k old new) (sym c.in-Stmt.is) (record { number = p.number; grown = p.grown })) c.stmt_front.ensures
 
@@ -63,7 +63,7 @@ returns-in_ok-expr_front-in-Expr g c =
     let G = given g.F.Facts.decls g.F.Facts.types c.args.here.now in
     let path = c.args.path.now.steps.items in
     let old = c.args.out.now.items in
-    let fn = c.args.found.number in
-    let fb = c.args.found.base in
+    let fn = c.args.found.now.number in
+    let fb = c.args.found.now.base in
     let new = c.expr_front.new.out.items in
     subst (λ (y : raw.Piece g.row.A.Denot). GrownTo G (NumbersPiece T fn fb path (piece_of y)) (λ o. front (known_of G o) (spotted T fb path (piece_of y)) c.args.part) (first_number fn (piece_of y) c.args.part) fn old new) (sym c.in-Expr.is) (record { number = refl; grown = λ o h. c.in_ok-expr_front-in-Expr.ensures o })
