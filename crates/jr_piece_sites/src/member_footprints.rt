@@ -1,5 +1,6 @@
 //! The sites of a piece of a member, by its path.
-ghost use Rattle.std.specs.Prelude.{◌≡◌, ◌≤◌, ◌-◌, ◌++◌, ◌∷◌, [], Some, IfOk, IfSome, OnOk, map, option_map};
+ghost use Rattle.std.specs.Prelude.{◌≡◌, ◌≤◌, ◌-◌, ◌++◌, ◌∷◌, [], Some, IfOk, IfSome, OnOk};
+ghost use Rattle.std.specs.Prelude.{map, option_map};
 ghost use Rattle.jr_ast.specs.Nodes as nodes;
 ghost use Rattle.jr_ast.specs.Nodes.{Node};
 ghost use Rattle.jr_ast.specs.StatementTree as statement;
@@ -11,7 +12,8 @@ ghost use Rattle.jr_cover.specs.Spots.{Spot};
 ghost use Rattle.jr_expr_sites.specs.KnownFacts.{Others, known_of};
 ghost use Rattle.jr_expr_sites.specs.StepView.{given};
 ghost use Rattle.jr_footprints.specs.Footprints.{IsFootprint};
-ghost use Rattle.jr_piece_sites.specs.Leads.{AllStmts, AreParts, LeadsToExp, LeadsToParts, of_exp, of_stmts, spots_of};
+ghost use Rattle.jr_piece_sites.specs.Leads.{AllStmts, AreParts, LeadsToExp, LeadsToParts};
+ghost use Rattle.jr_piece_sites.specs.Leads.{of_exp, of_stmts, spots_of};
 ghost use Rattle.jr_piece_sites.specs.PartSites.{PartPut, PartsPut, parts_sites};
 ghost use Rattle.jr_piece_sites.specs.Pieces as pure;
 ghost use Rattle.jr_piece_sites.specs.Pieces.{FitsPiece, NumbersPiece, StartsAt, spotted};

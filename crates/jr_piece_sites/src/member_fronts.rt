@@ -1,7 +1,8 @@
 //! What stands in front of a part of a member, in evaluation order (JLS 8).
 ghost use Rattle.std.specs.Prelude.{◌≡◌, ◌+◌, ◌<◌, IfOk, length, map, option_map, suc};
 ghost use Rattle.std.specs.List.{list_any};
-ghost use Rattle.jr_ast.specs.View.{args_of, exprs_of, member_of, modifier_of, param_of, stmts_of, type_of};
+ghost use Rattle.jr_ast.specs.View.{args_of, exprs_of, member_of, modifier_of, param_of};
+ghost use Rattle.jr_ast.specs.View.{stmts_of, type_of};
 ghost use Rattle.jr_bind_expr.specs.Fits.{FitsExps, FitsStmts};
 ghost use Rattle.jr_cfg.specs.MemberRoutes.{FitsArgs, FitsSites, NumbersMember};
 ghost use Rattle.jr_cfg.specs.StatementRoutes.{NumberedAll};
@@ -49,8 +50,9 @@ fn locals_of<A>(params: &[Param<A>]) -> Result<u32, AllocError>
     }
 }
 
-/// Puts that a synchronized method's monitor is entered (JLS 8.4.3.6), and then what stands in front
-/// of the statement of the number `count` of its body, which is the part of the number `part`.
+/// Puts that a synchronized method's monitor is entered (JLS 8.4.3.6), and then what stands in
+/// front of the statement of the number `count` of its body, whose first one is the part of the
+/// number `first`.
 fn put_method_body<'a, F: Facts, A: Mark>(
     alloc: Global,
     here: &Here<'a, F>,
@@ -122,9 +124,9 @@ fn method_front<'a, F: Facts, A: Mark>(
     }
 }
 
-/// Puts what stands in front of the part of the number `count` of the arguments of a `super(..)` and
-/// the statements behind them, of which the first is the part of the number `first`: arguments, and
-/// in front of statements the call (JLS 8.8.7).
+/// Puts what stands in front of the part of the number `count` of the arguments of a `super(..)`
+/// and the statements behind them, of which the first is the part of the number `first`: arguments,
+/// and in front of statements the call (JLS 8.8.7).
 fn put_args_then<'a, F: Facts, A: Mark>(
     alloc: Global,
     here: &Here<'a, F>,

@@ -1,5 +1,6 @@
 //! The pieces of a member, by their paths.
-ghost use Rattle.std.specs.Prelude.{◌≡◌, ◌+◌, ◌-◌, ◌≤◌, [], suc, length, map, None, IfSome, SomeIff, option_map};
+ghost use Rattle.std.specs.Prelude.{◌≡◌, ◌+◌, ◌-◌, ◌≤◌, [], suc, length, map, None, IfSome};
+ghost use Rattle.std.specs.Prelude.{SomeIff, option_map};
 ghost use Rattle.jr_ast.specs.View.{args_of, else_of, expr_of, exprs_of, member_of};
 ghost use Rattle.jr_ast.specs.View.{modifier_of, param_of, stmt_of, stmts_of, type_of};
 ghost use Rattle.jr_expr_sites.specs.Routes.{begins_by};
