@@ -14,6 +14,7 @@ use jr_ast::{Expr, Member, MemberKind, Modifier, Param, Stmt, StmtKind, TypeRef}
 use jr_text::Mark;
 
 /// A member, or a statement or an expression in it.
+#[derive(Drop)]
 pub(crate) enum Piece<'a, A> {
     Member(&'a Member<A>),
     Stmt(&'a Stmt<A>),
@@ -286,6 +287,7 @@ pub(crate) fn begin<A: Mark>(of: &Piece<'_, A>, base: u32) -> u32
 }
 
 /// A piece whose parent begins at the byte `base` of the file.
+#[derive(Drop)]
 pub(crate) struct Placed<'a, A> {
     pub(crate) of: Piece<'a, A>,
     pub(crate) base: u32,

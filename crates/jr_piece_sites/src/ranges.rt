@@ -25,6 +25,7 @@ use std::alloc::{AllocError, Global};
 
 /// A piece whose parent begins at the byte `base` of the file; `number` is that of the first local
 /// that is declared in it.
+#[derive(Drop)]
 pub(crate) struct Found<'a, A> {
     pub(crate) of: Piece<'a, A>,
     pub(crate) base: u32,
