@@ -1,6 +1,6 @@
 -- What a read by a path finds in a member, is what paths of this crate lead to: for who meets its
 -- conditions.
-use Rattle.std.proofs.Common.{◌≡◌, ℕ, zero, suc, ◌-◌, ◌≤◌, List, [], ◌∷◌, length, take, drop, Option, Some, None, option_map, refl, sym, ap, arith, ◌∙◌}
+use Rattle.std.proofs.Common.{◌≡◌, true, false, ℕ, zero, suc, ◌-◌, ◌≤◌, List, [], ◌∷◌, length, take, drop, Option, Some, None, option_map, refl, sym, ap, arith, ◌∙◌}
 use Rattle.std.specs.Prelude.{IsTrue, is_some}
 use Rattle.std.proofs.lemmas.List.{length-drop, length-take-le}
 use Rattle.jr_ast.specs.declared.stmts.Stmt.{Stmt}
@@ -53,7 +53,10 @@ module _ {A : Type 0} (m : declared.Member A) (own : IsOwner m) (path : List ℕ
   at_stmt s h = (own, (piece.stmt s, node_leads path (piece.member m) (piece.stmt s) (stmt_leads (piece.member m) own path s h)))
 
   pub some_stmt : {X : Type 0} (f : X → statement.Stmt A) (r : Option X) → option_map f r ≡ nodes.stmt_at (nodes.member m) path → IsTrue (is_some r) → Leads m path
-  some_stmt f None e h = absurd h
+  some_stmt f None e h = absurd (apart h)
+    where
+      apart : false ≡ true → ⊥
+      apart j = cc
   some_stmt f (Some x) e h = at_stmt (f x) (sym e)
 
   pub in_block : (mark : A) (body : statement.Stmts A) (from to : ℕ) → nodes.stmt_at (nodes.member m) path ≡ Some (statement.block mark body) → from ≤ to → to ≤ length (nodes.stmts body) → LeadsToParts m path from to
