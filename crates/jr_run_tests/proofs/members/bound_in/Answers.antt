@@ -9,17 +9,17 @@ use Rattle.jr_members.specs.WrittenLaws.{AreWritten}
 use Rattle.jr_program_laws.specs.FileParts.{begins}
 use Rattle.jr_bind.proofs.MemberFound.{to_mapped}
 use Rattle.jr_sources.proofs.PartsFit.{units_gathered}
-use Rattle.jr_reading_tests.proofs.OneMember.{of_ok, can_bind}
-use Rattle.jr_reading_tests.proofs.methods.tell_method.Goals as goal
+use Rattle.jr_run_tests.proofs.OneMember.{of_ok, can_bind}
+use Rattle.jr_run_tests.proofs.members.bound_in.Goals as goal
 
 pub written_members-requires-clause-fits : goal.written_members-requires-clause-fits
 written_members-requires-clause-fits g c = units_gathered _ (map unit_of c.args.units.now)
 
-pub bind_key-bound-requires-clause-fits : goal.bind_key-bound-requires-clause-fits
-bind_key-bound-requires-clause-fits g c = units_gathered _ (map unit_of c.args.units.now)
+pub bind_member-bound-requires-clause-fits : goal.bind_member-bound-requires-clause-fits
+bind_member-bound-requires-clause-fits g c = units_gathered _ (map unit_of c.args.units.now)
 
-pub bind_key-bound-requires-clause-written : goal.bind_key-bound-requires-clause-written
-bind_key-bound-requires-clause-written g c =
+pub bind_member-bound-requires-clause-written : goal.bind_member-bound-requires-clause-written
+bind_member-bound-requires-clause-written g c =
     let units = map unit_of c.args.units.now in
     let rows = c.table_in-table.result in
     let raws = c.as_slice.result.now in
