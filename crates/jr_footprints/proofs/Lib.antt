@@ -1,4 +1,2 @@
--- `StepSites`: the sites of a way's steps. `MemberFlagging`: what a walk takes for never null is what
--- flags say.
-pub mod StepSites
+-- `MemberFlagging`: what a walk takes for never null is what flags say.
 pub mod MemberFlagging

@@ -9,7 +9,7 @@ use Rattle.jr_cfg.specs.StatementRoutes as list
 use Rattle.jr_expr_sites.specs.declared.step.Step as raw_step
 use Rattle.jr_expr_sites.specs.Steps.{sites_in, steps_of}
 use Rattle.jr_expr_sites.specs.StepView.{given, steps_in}
-use Rattle.jr_footprints.proofs.StepSites.{sites_of_steps}
+use Rattle.jr_cfg.proofs.StepLaws.{sites_of_steps}
 use Rattle.jr_footprints.proofs.footprints.stmts_footprint.Goals as goal
 
 pub stmts-requires : goal.stmts-requires

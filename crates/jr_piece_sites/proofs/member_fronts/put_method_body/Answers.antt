@@ -1,0 +1,29 @@
+use Rattle.std.proofs.Common.{◌+◌}
+use Rattle.jr_ast.specs.View.{stmts_of}
+use Rattle.jr_cover.specs.Spots.{spot_stmts}
+use Rattle.jr_expr_sites.specs.StepView.{given}
+use Rattle.jr_expr_sites.specs.KnownFacts.{known_of}
+use Rattle.jr_expr_sites.specs.Routes.{begins_by, ends_by}
+use Rattle.jr_piece_sites.specs.Fronts.{one_if, stmts_front}
+use Rattle.jr_piece_sites.specs.Growth.{count}
+use Rattle.jr_cfg.specs.StatementRoutes.{NumberedAll}
+use Rattle.jr_piece_sites.specs.Pieces.{locals_up_to}
+use Rattle.jr_piece_sites.proofs.Growths as growth
+use Rattle.jr_piece_sites.proofs.member_fronts.put_method_body.Goals as goal
+
+pub put_stmts-requires : goal.put_stmts-requires
+put_stmts-requires g c = record { fits = c.requires.fits }
+
+pub returns : goal.returns
+returns g c =
+    let T = g.A.Mark.span_from in
+    let G = given g.F.Facts.decls g.F.Facts.types c.args.here.now in
+    let path = c.args.path.now.steps.items in
+    let old = c.args.out.now.items in
+    let mid = c.put_if.new.out.items in
+    let new = c.put_stmts.new.out.items in
+    let at = c.args.here.now.start in
+    let n = c.args.number in
+    let body = stmts_of c.args.body.now in
+    let so = NumberedAll T n path c.args.first at body in
+    growth.if_ok_then c.put_stmts.result (λ k p. growth.after_walk G so (λ o. one_if c.args.is_locked) (λ o. stmts_front (known_of G o) (spot_stmts (begins_by T) (ends_by T) body at path c.args.first) c.args.count) (n + locals_up_to body c.args.count) k old mid new (c.in_ok-put_if.ensures G) p) c.put_stmts.ensures

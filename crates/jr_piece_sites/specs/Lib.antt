@@ -1,0 +1,10 @@
+pub mod Parts
+pub mod PartsView
+pub mod Pieces
+pub mod PieceView
+pub mod Fronts
+pub mod Growth
+pub mod Leads
+pub mod Descent
+pub mod PartSites
+pub mod Extents
