@@ -1,0 +1,9 @@
+pub mod Declarations
+pub mod Walking
+pub mod DeclarationLaws
+pub mod Scopes
+pub mod Descending
+pub mod Namings
+pub mod NamingView
+pub mod Places
+pub mod PlaceView
