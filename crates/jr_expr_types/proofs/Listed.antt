@@ -3,7 +3,7 @@ use Rattle.std.proofs.Common.{◌≡◌, ℕ, zero, suc, ◌+◌, ◌-◌, ◌<�
 use Rattle.std.specs.Prelude.{slice_get, option_map, ◌⊎◌}
 use Rattle.std.proofs.lemmas.Option.{slice_get-map, slice_get_within}
 use Rattle.jr_expr_types.specs.declared.types.Slot as raw
-use Rattle.jr_expr_types.specs.SlotView.{slot_of}
+use Rattle.jr_expr_types.specs.SlotView.{shape_of}
 use Rattle.jr_expr_types.specs.Slots.{Slot, last_slot, size_of, skip}
 use Rattle.jr_expr_types.specs.PartEnds.{skips, AreListed, Keeps}
 
@@ -44,9 +44,9 @@ keeps_all xs ys same k x e = ap (λ l. slice_get l k) same ∙ e
 
 -- ---- slots as they are shown
 
-pub last_shown : (slots : List raw.Slot) (end : ℕ) (o : Option raw.Slot) → o ≡ last_slot slots end → option_map slot_of o ≡ last_slot (map slot_of slots) end
-last_shown slots zero o is = ap (option_map slot_of) is
-last_shown slots (suc n) o is = ap (option_map slot_of) is ∙ sym (slice_get-map slot_of slots n)
+pub last_shown : (f : raw.Slot → Slot) (slots : List raw.Slot) (end : ℕ) (o : Option raw.Slot) → o ≡ last_slot slots end → option_map f o ≡ last_slot (map f slots) end
+last_shown f slots zero o is = ap (option_map f) is
+last_shown f slots (suc n) o is = ap (option_map f) is ∙ sym (slice_get-map f slots n)
 
 -- ---- ends one by one
 
@@ -85,20 +85,21 @@ module _ (xs : List Slot) where
   pub listed_all : (count i end : ℕ) (old new : List ℕ) → count ≤ i → i ≤ count → new ≡ old ++ skips xs i end → new ≡ old ++ skips xs count end
   listed_all count i end old new ge le is = let e : i ≡ count = omega (arith, ge, le) in is ∙ ap (λ n. old ++ skips xs n end) e
 
-module _ (xs ys : List Slot) where
-  last_stays : (end : ℕ) → end ≤ length xs → last_slot (xs ++ ys) end ≡ last_slot xs end
+module _ {X : Type 0} (xs ys : List X) where
+  pub last_stays : (end : ℕ) → end ≤ length xs → last_slot (xs ++ ys) end ≡ last_slot xs end
   last_stays zero le = refl
   last_stays (suc n) le = get_left xs ys n (omega (arith, le))
 
+module _ (xs ys : List Slot) where
   skip_stays : (count end : ℕ) → end ≤ length xs → skip (xs ++ ys) count end ≡ skip xs count end
   unfolding skip
   skip_stays zero end le = refl
   skip_stays (suc n) end le =
-      ap (λ o. skip (xs ++ ys) n (end - size_of o)) (last_stays end le) ∙ skip_stays n (end - size_of (last_slot xs end)) (omega (arith, le))
+      ap (λ o. skip (xs ++ ys) n (end - size_of o)) (last_stays xs ys end le) ∙ skip_stays n (end - size_of (last_slot xs end)) (omega (arith, le))
 
 -- ---- what is kept
 
-which : (a b : ℕ) → (a < b) ⊎ (b ≤ a)
+pub which : (a b : ℕ) → (a < b) ⊎ (b ≤ a)
 which a zero = inr (omega arith)
 which zero (suc b) = inl (omega arith)
 which (suc a) (suc b) = elim (which a b) [
@@ -125,32 +126,32 @@ pub still_listed : (slots new : List raw.Slot) (ends next : List ℕ) → new �
 still_listed slots new ends next same are keeps = subst (λ (l : List raw.Slot). AreListed l next) (sym same)
     (λ n s e many k within. keeps (s.listed + k) _ (are n s e many k within))
 
-module _ (slots : List raw.Slot) (ends next : List ℕ) (s : raw.Slot) (are : AreListed slots ends) (keeps : Keeps ends next) (at : s.listed ≡ length ends) (listed : 16 < s.count → next ≡ ends ++ skips (map slot_of slots) s.count (length slots)) where
-  shown : (k n : ℕ) → n ≤ length slots → skip (map slot_of slots) k n ≡ skip (map slot_of (slots ++ s ∷ [])) k n
-  shown k n le = let m = map_count slot_of slots in
-      sym (ap (λ l. skip l k n) (map_join slot_of slots (s ∷ [])) ∙ skip_stays (map slot_of slots) (slot_of s ∷ []) k n (omega (arith, le, m)))
+module _ (slots : List raw.Slot) (ends next : List ℕ) (s : raw.Slot) (are : AreListed slots ends) (keeps : Keeps ends next) (at : s.listed ≡ length ends) (listed : 16 < s.count → next ≡ ends ++ skips (map shape_of slots) s.count (length slots)) where
+  shown : (k n : ℕ) → n ≤ length slots → skip (map shape_of slots) k n ≡ skip (map shape_of (slots ++ s ∷ [])) k n
+  shown k n le = let m = map_count shape_of slots in
+      sym (ap (λ l. skip l k n) (map_join shape_of slots (s ∷ [])) ∙ skip_stays (map shape_of slots) (shape_of s ∷ []) k n (omega (arith, le, m)))
 
-  old : (n : ℕ) (z : raw.Slot) → n < length slots → slice_get (slots ++ s ∷ []) n ≡ Some z → 16 < z.count → (k : ℕ) → k < z.count → slice_get next (z.listed + k) ≡ Some (skip (map slot_of (slots ++ s ∷ [])) k n)
+  old : (n : ℕ) (z : raw.Slot) → n < length slots → slice_get (slots ++ s ∷ []) n ≡ Some z → 16 < z.count → (k : ℕ) → k < z.count → slice_get next (z.listed + k) ≡ Some (skip (map shape_of (slots ++ s ∷ [])) k n)
   old n z lt e many k within =
       keeps (z.listed + k) _ (are n z (sym (get_left slots (s ∷ []) n lt) ∙ e) many k within) ∙ ap Some (shown k n (omega (arith, lt)))
 
-  own : (z : raw.Slot) → z ≡ s → 16 < z.count → (k : ℕ) → k < z.count → slice_get next (z.listed + k) ≡ Some (skip (map slot_of (slots ++ s ∷ [])) k (length slots))
+  own : (z : raw.Slot) → z ≡ s → 16 < z.count → (k : ℕ) → k < z.count → slice_get next (z.listed + k) ≡ Some (skip (map shape_of (slots ++ s ∷ [])) k (length slots))
   own z same many k within =
       let many_of : 16 < s.count = subst (λ (u : raw.Slot). 16 < u.count) same many in
       let within_of : k < s.count = subst (λ (u : raw.Slot). k < u.count) same within in
       (λ i. slice_get (listed many_of i) (ap (λ (u : raw.Slot). u.listed) same i + k))
-      ∙ ap (λ n. slice_get (ends ++ skips (map slot_of slots) s.count (length slots)) (n + k)) at
-      ∙ get_right ends (skips (map slot_of slots) s.count (length slots)) k
-      ∙ skips_at (map slot_of slots) s.count (length slots) k within_of
+      ∙ ap (λ n. slice_get (ends ++ skips (map shape_of slots) s.count (length slots)) (n + k)) at
+      ∙ get_right ends (skips (map shape_of slots) s.count (length slots)) k
+      ∙ skips_at (map shape_of slots) s.count (length slots) k within_of
       ∙ ap Some (shown k (length slots) (omega arith))
 
-  behind : (n m : ℕ) (z : raw.Slot) → length slots + m ≡ n → slice_get (s ∷ []) m ≡ Some z → 16 < z.count → (k : ℕ) → k < z.count → slice_get next (z.listed + k) ≡ Some (skip (map slot_of (slots ++ s ∷ [])) k n)
+  behind : (n m : ℕ) (z : raw.Slot) → length slots + m ≡ n → slice_get (s ∷ []) m ≡ Some z → 16 < z.count → (k : ℕ) → k < z.count → slice_get next (z.listed + k) ≡ Some (skip (map shape_of (slots ++ s ∷ [])) k n)
   behind n zero z d e many k within =
       let f : length slots ≡ n = omega (arith, d) in
-      own z (sym (some_is s z e)) many k within ∙ ap (λ j. Some (skip (map slot_of (slots ++ s ∷ [])) k j)) f
+      own z (sym (some_is s z e)) many k within ∙ ap (λ j. Some (skip (map shape_of (slots ++ s ∷ [])) k j)) f
   behind n (suc m) z d e many k within = absurd (let l = slice_get_within (s ∷ []) (suc m) z e in omega (arith, l))
 
-  last : (n : ℕ) (z : raw.Slot) → length slots ≤ n → slice_get (slots ++ s ∷ []) n ≡ Some z → 16 < z.count → (k : ℕ) → k < z.count → slice_get next (z.listed + k) ≡ Some (skip (map slot_of (slots ++ s ∷ [])) k n)
+  last : (n : ℕ) (z : raw.Slot) → length slots ≤ n → slice_get (slots ++ s ∷ []) n ≡ Some z → 16 < z.count → (k : ℕ) → k < z.count → slice_get next (z.listed + k) ≡ Some (skip (map shape_of (slots ++ s ∷ [])) k n)
   last n z ge e =
       let d : length slots + (n - length slots) ≡ n = omega (arith, ge) in
       behind n (n - length slots) z d (sym (get_right slots (s ∷ []) (n - length slots)) ∙ ap (slice_get (slots ++ s ∷ [])) d ∙ e)
@@ -162,6 +163,6 @@ module _ (slots : List raw.Slot) (ends next : List ℕ) (s : raw.Slot) (are : Ar
   ]
 
 -- a node is put behind slots for which room was made
-pub pushed : (slots room new : List raw.Slot) (ends next : List ℕ) (s : raw.Slot) → room ≡ slots → new ≡ room ++ s ∷ [] → AreListed slots ends → Keeps ends next → s.listed ≡ length ends → (16 < s.count → next ≡ ends ++ skips (map slot_of slots) s.count (length slots)) → AreListed new next
+pub pushed : (slots room new : List raw.Slot) (ends next : List ℕ) (s : raw.Slot) → room ≡ slots → new ≡ room ++ s ∷ [] → AreListed slots ends → Keeps ends next → s.listed ≡ length ends → (16 < s.count → next ≡ ends ++ skips (map shape_of slots) s.count (length slots)) → AreListed new next
 pushed slots room new ends next s made put are keeps at listed =
     subst (λ (l : List raw.Slot). AreListed l next) (sym (put ∙ ap (λ l. l ++ s ∷ []) made)) (one_more slots ends next s are keeps at listed)

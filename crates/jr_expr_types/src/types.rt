@@ -1,9 +1,10 @@
 //! Types by path.
-ghost use Rattle.std.specs.Prelude.{◌≡◌, ◌<◌, ◌++◌, ℕ, IfOk, map, option_map, option_and_then};
-ghost use Rattle.std.specs.Prelude.{Some, length, slice_get};
+ghost use Rattle.std.specs.Prelude.{◌≡◌, ◌<◌, ◌≤◌, ◌+◌, ◌++◌, ◌∷◌, ◌↔◌, [], ℕ, length, slice_get};
+ghost use Rattle.std.specs.Prelude.{IfOk, IfSome, IsTrue, None, OnErr, Some, map, option_map};
+ghost use Rattle.std.specs.Prelude.{option_and_then};
 ghost use Rattle.jr_table.specs.TypeView.{ty_of};
 ghost use Rattle.jr_expr_types.specs.PartEnds.{AreListed, Keeps, skips};
-ghost use Rattle.jr_expr_types.specs.SlotView.{slot_of};
+ghost use Rattle.jr_expr_types.specs.SlotView.{AreTyped, Grows, shape_of, slot_of};
 ghost use Rattle.jr_expr_types.specs.Slots as pure;
 
 use jr_ast::Path;
@@ -11,68 +12,72 @@ use jr_table::Ty;
 use std::alloc::{AllocError, Global};
 use std::marker::Model;
 
-/// A node: how many slots it takes with all that stands in it, how many parts it has, and its type,
-/// if it has one. If it has many parts, their ends stand in a list, from this place on.
+/// A node: how many slots it takes with all that stands in it, how many parts it has, and the
+/// number of its type among those that are kept, from 1, or 0 if it has none. If it has many parts,
+/// their ends stand in a list, from this place on.
 #[derive(Drop)]
 struct Slot {
-    size: usize,
-    count: usize,
-    ty: Option<Ty>,
-    listed: usize,
+    size: u32,
+    count: u32,
+    ty: u32,
+    listed: u32,
 }
 
 /// Trees of types, each node behind its parts. Contracts see the slots. The ends of the parts of
 /// nodes with many parts are listed, of each node from its last part on: passing over so many parts
-/// at each path would be quadratic in the length of a list of statements.
+/// at each path would be quadratic in the length of a list of statements. Types are kept apart from
+/// the nodes, as a member has many nodes and few types.
 #[derive(Drop)]
 pub struct Types {
     slots: Vec<Slot>,
     ends: Vec<usize>,
+    types: Vec<Ty>,
 }
 
 impl Model for Types {
     ghost use Rattle.std.specs.Prelude.{List, map};
     ghost use Rattle.jr_expr_types.specs.PartEnds.{AreListed};
-    ghost use Rattle.jr_expr_types.specs.SlotView.{slot_of};
+    ghost use Rattle.jr_expr_types.specs.SlotView.{AreTyped, slot_of};
     ghost use Rattle.jr_expr_types.specs.Slots as pure;
 
     ghost Value = { List pure.Slot };
 
-    ghost view = { λ t. map slot_of t.slots.items };
+    ghost view = { λ t. map (slot_of t.types.items) t.slots.items };
 
-    ghost invariant = { λ t. AreListed t.slots.items t.ends.items };
+    ghost invariant = { λ t. AreListed t.slots.items t.ends.items
+        × AreTyped t.types.items t.slots.items };
 }
 
-/// The slot of a number.
-fn slot_at(slots: &[Slot], number: usize) -> Option<&Slot>
-    ensures { option_map (λ s. s.now) result ≡ slice_get slots.now number }
+/// The item of a number.
+fn item_at<T>(items: &[T], number: usize) -> Option<&T>
+    ensures { option_map (λ s. s.now) result ≡ slice_get items.now number }
 {
-    slots.get(number)
+    items.get(number)
 }
 
-/// The slot in front of the end, if there is one.
-fn last(slots: &[Slot], end: usize) -> Option<&Slot>
-    ensures { option_map (λ s. s.now) result ≡ pure.last_slot slots.now end }
+/// The item in front of the end, if there is one.
+fn last<T>(items: &[T], end: usize) -> Option<&T>
+    ensures { option_map (λ s. s.now) result ≡ pure.last_slot items.now end }
 {
     if end == 0 {
         return None;
     }
-    slot_at(slots, end - 1)
+    item_at(items, end - 1)
 }
 
 /// How many slots the tree in front of the end takes.
 fn last_size(slots: &[Slot], end: usize) -> usize
-    ensures { result ≡ pure.size_of (pure.last_slot (map slot_of slots.now) end) }
+    ensures { result ≡ pure.size_of (pure.last_slot (map shape_of slots.now) end) }
 {
     match last(slots, end) {
         None => 0,
-        Some(slot) => slot.size,
+        Some(slot) => slot.size as usize,
     }
 }
 
 /// The end in front of so many trees.
 fn skip(slots: &[Slot], count: usize, end: usize) -> usize
-    ensures { result ≡ pure.skip (map slot_of slots.now) count end }
+    ensures { result ≡ pure.skip (map shape_of slots.now) count end }
 {
     let mut left = end;
     for _skipped in 0..count {
@@ -96,10 +101,10 @@ fn passed(slots: &[Slot], ends: &[usize], node: &Slot, count: usize, number: usi
     requires listed { AreListed slots.now ends.now }
     requires there { slice_get slots.now number ≡ Some node.now }
     requires within { count < node.now.count }
-    ensures { result ≡ Some (pure.skip (map slot_of slots.now) count number) }
+    ensures { result ≡ Some (pure.skip (map shape_of slots.now) count number) }
 {
-    if node.count > FEW_PARTS {
-        let (_, own) = ends.split_at(node.listed);
+    if node.count as usize > FEW_PARTS {
+        let (_, own) = ends.split_at(node.listed as usize);
         return number_at(own, count);
     }
     Some(skip(slots, count, number))
@@ -108,15 +113,16 @@ fn passed(slots: &[Slot], ends: &[usize], node: &Slot, count: usize, number: usi
 /// The end of the part of the number, of the node in front of the end.
 fn part_end(slots: &[Slot], ends: &[usize], end: usize, step: u32) -> Option<usize>
     requires listed { AreListed slots.now ends.now }
-    ensures { result ≡ pure.part_end (map slot_of slots.now)
-        (pure.last_slot (map slot_of slots.now) end) step end }
+    ensures { result ≡ pure.part_end (map shape_of slots.now)
+        (pure.last_slot (map shape_of slots.now) end) step end }
 {
     match last(slots, end) {
         None => None,
         Some(node) => {
             let step = step as usize;
-            if step < node.count {
-                return passed(slots, ends, node, node.count - 1 - step, end - 1);
+            let count = node.count as usize;
+            if step < count {
+                return passed(slots, ends, node, count - 1 - step, end - 1);
             }
             None
         }
@@ -132,7 +138,7 @@ fn list_ends(
 ) -> Result<(), AllocError>
     ensures kept { Keeps ends.old.items ends.new.items }
     ensures listed { IfOk result (λ _. ends.new.items
-        ≡ ends.old.items ++ skips (map slot_of slots.now) count end) }
+        ≡ ends.old.items ++ skips (map shape_of slots.now) count end) }
 {
     let mut left = end;
     for _listed in 0..count {
@@ -146,7 +152,7 @@ fn list_ends(
 fn list_parts(slots: &[Slot], parts: usize, ends: &mut Vec<usize>) -> Result<(), AllocError>
     ensures kept { Keeps ends.old.items ends.new.items }
     ensures listed { IfOk result (λ _. 16 < parts → ends.new.items
-        ≡ ends.old.items ++ skips (map slot_of slots.now) parts (length slots.now)) }
+        ≡ ends.old.items ++ skips (map shape_of slots.now) parts (length slots.now)) }
 {
     if parts > FEW_PARTS {
         return list_ends(slots, parts, slots.len(), ends);
@@ -155,21 +161,27 @@ fn list_parts(slots: &[Slot], parts: usize, ends: &mut Vec<usize>) -> Result<(),
 }
 
 /// The type of the node in front of the end.
-fn last_type(slots: &[Slot], end: usize) -> Option<&Ty>
+fn last_type<'a>(types: &'a [Ty], slots: &[Slot], end: usize) -> Option<&'a Ty>
     ensures { option_map (λ t. ty_of t.now) result
-        ≡ option_and_then (λ s. s.type) (pure.last_slot (map slot_of slots.now) end) }
+        ≡ option_and_then (λ s. s.type) (pure.last_slot (map (slot_of types.now) slots.now) end) }
 {
     match last(slots, end) {
         None => None,
-        Some(slot) => slot.ty.as_ref(),
+        Some(slot) => last(types, slot.ty as usize),
     }
 }
 
 /// The type of the node to which the steps lead from the one in front of the end.
-fn find<'a>(slots: &'a [Slot], ends: &[usize], end: usize, steps: &[u32]) -> Option<&'a Ty>
+fn find<'a>(
+    types: &'a [Ty],
+    slots: &[Slot],
+    ends: &[usize],
+    end: usize,
+    steps: &[u32],
+) -> Option<&'a Ty>
     requires listed { AreListed slots.now ends.now }
     ensures { option_map (λ t. ty_of t.now) result
-        ≡ pure.find (map slot_of slots.now) end steps.now }
+        ≡ pure.find (map (slot_of types.now) slots.now) end steps.now }
 {
     let mut here = end;
     for step in steps {
@@ -178,7 +190,88 @@ fn find<'a>(slots: &'a [Slot], ends: &[usize], end: usize, steps: &[u32]) -> Opt
         };
         here = below;
     }
-    last_type(slots, here)
+    last_type(types, slots, here)
+}
+
+/// A number in four bytes. Trees with more slots don't fit any memory.
+fn narrow(number: usize) -> Result<u32, AllocError>
+    ensures { IfOk result (λ n. n ≡ number) }
+{
+    match u32::try_from(number) {
+        Ok(number) => Ok(number),
+        Err(_) => Err(AllocError),
+    }
+}
+
+/// Whether this type has the number.
+fn is_at(types: &[Ty], number: usize, ty: &Ty) -> bool
+    ensures { IsTrue result ↔ (option_map ty_of (slice_get types.now number)
+        ≡ Some (ty_of ty.now)) }
+{
+    match item_at(types, number) {
+        None => false,
+        Some(other) => *other == *ty,
+    }
+}
+
+/// A type is looked for among so many of the last ones. What isn't found there is kept once more:
+/// among all of them the search would be quadratic in the number of a member's types.
+const RECENT_TYPES: usize = 8;
+
+/// The place of a type, if it is one of the last ones.
+fn find_recent(types: &[Ty], ty: &Ty) -> Option<usize>
+    ensures found { IfSome result (λ n. option_map ty_of (slice_get types.now n)
+        ≡ Some (ty_of ty.now)) }
+    ensures missed { result ≡ None → (n : ℕ) → n < length types.now
+        → length types.now ≤ n + 8
+        → option_map ty_of (slice_get types.now n) ≡ Some (ty_of ty.now) → ⊥ }
+{
+    let first = types.len().saturating_sub(RECENT_TYPES);
+    for number in first..types.len() {
+        if is_at(types, number, ty) {
+            return Some(number);
+        }
+    }
+    None
+}
+
+/// Keeps one more type, and answers its number, from 1.
+fn keep_type(types: &mut Vec<Ty>, ty: Ty) -> Result<u32, AllocError>
+    ensures grows { Grows types.old.items types.new.items }
+    ensures there { IfOk result (λ n. option_map ty_of (pure.last_slot types.new.items n)
+        ≡ Some (ty_of ty)) }
+{
+    let number = narrow(types.len() + 1)?;
+    types.push(ty)?;
+    Ok(number)
+}
+
+/// The number of a type, from 1, which is kept unless it is one of the last ones.
+fn number_of_type(types: &mut Vec<Ty>, ty: Ty) -> Result<u32, AllocError>
+    ensures grows { Grows types.old.items types.new.items }
+    ensures there { IfOk result (λ n. option_map ty_of (pure.last_slot types.new.items n)
+        ≡ Some (ty_of ty)) }
+{
+    match find_recent(types.as_slice(), &ty) {
+        None => keep_type(types, ty),
+        Some(place) => {
+            drop(ty);
+            narrow(place + 1)
+        }
+    }
+}
+
+/// The number of a node's type: 0 if it has none.
+fn number_of(types: &mut Vec<Ty>, ty: Option<Ty>) -> Result<u32, AllocError>
+    ensures grows { Grows types.old.items types.new.items }
+    ensures there { IfOk result (λ n. option_map ty_of (pure.last_slot types.new.items n)
+        ≡ option_map ty_of ty) }
+    ensures within { IfOk result (λ n. n ≤ length types.new.items) }
+{
+    match ty {
+        None => Ok(0),
+        Some(ty) => number_of_type(types, ty),
+    }
 }
 
 /// Most members have no more slots.
@@ -194,6 +287,48 @@ fn make_room(slots: &mut Vec<Slot>) -> Result<(), AllocError>
     Ok(())
 }
 
+/// A node of so many slots and parts.
+fn node(size: usize, count: usize, ty: u32, listed: usize) -> Result<Slot, AllocError>
+    ensures { IfOk result (λ s. s ≡ record {
+      size = size;
+      count = count;
+      ty = ty;
+      listed = listed;
+    }) }
+{
+    let size = narrow(size)?;
+    let count = narrow(count)?;
+    let listed = narrow(listed)?;
+    Ok(Slot {
+        size,
+        count,
+        ty,
+        listed,
+    })
+}
+
+/// Puts a node behind the others.
+fn put(
+    slots: &mut Vec<Slot>,
+    size: usize,
+    count: usize,
+    ty: u32,
+    listed: usize,
+) -> Result<(), AllocError>
+    ensures put { IfOk result (λ _. slots.new.items ≡ slots.old.items ++ record {
+      size = size;
+      count = count;
+      ty = ty;
+      listed = listed;
+    } ∷ []) }
+    ensures unless { OnErr result (slots.new.items ≡ slots.old.items) }
+{
+    let slot = node(size, count, ty, listed)?;
+    make_room(slots)?;
+    slots.push(slot)?;
+    Ok(())
+}
+
 impl Types {
     ghost use Rattle.std.specs.Prelude.{◌≡◌, ◌≤◌, ◌-◌, ◌++◌, ◌∷◌, [], suc, length, IfOk};
 
@@ -204,6 +339,7 @@ impl Types {
         Types {
             slots: Vec::new(alloc),
             ends: Vec::new(alloc),
+            types: Vec::new(alloc),
         }
     }
 
@@ -226,15 +362,19 @@ impl Types {
     {
         let size = self.slots.len() - before + 1;
         let listed = self.ends.len();
+        let number = number_of(&mut self.types, ty)?;
         list_parts(self.slots.as_slice(), parts, &mut self.ends)?;
-        make_room(&mut self.slots)?;
-        self.slots.push(Slot {
-            size,
-            count: parts,
-            ty,
-            listed,
-        })?;
+        put(&mut self.slots, size, parts, number, listed)?;
         Ok(())
+    }
+
+    /// Lets go of the room that is left, once all trees are made.
+    pub fn fit(&mut self)
+        ensures { self.new ≡ self.old }
+    {
+        self.slots.shrink_to_fit();
+        self.ends.shrink_to_fit();
+        self.types.shrink_to_fit();
     }
 
     /// The type of the node to which the path leads from the root of the last tree.
@@ -244,6 +384,7 @@ impl Types {
             ≡ pure.find_type self.now path.now.steps.items }
     {
         find(
+            self.types.as_slice(),
             self.slots.as_slice(),
             self.ends.as_slice(),
             self.slots.len(),
