@@ -1,4 +1,4 @@
-use Rattle.std.proofs.Common.{◌≡◌, map, sym, ◌∙◌}
+use Rattle.std.proofs.Common.{map, sym, ◌∙◌}
 use Rattle.std.proofs.lemmas.List.{drop_more}
 use Rattle.jr_expr_types.specs.SlotView.{slot_of}
 use Rattle.jr_expr_types.proofs.Kept.{part_same}

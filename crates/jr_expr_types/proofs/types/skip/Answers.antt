@@ -1,4 +1,4 @@
-use Rattle.std.proofs.Common.{◌≡◌, ◌-◌, map, ap, ◌∙◌}
+use Rattle.std.proofs.Common.{◌-◌, map, ap, ◌∙◌}
 use Rattle.jr_expr_types.specs.SlotView.{shape_of}
 use Rattle.jr_expr_types.proofs.StepLaws.{next_skip, skip_done}
 use Rattle.jr_expr_types.proofs.types.skip.Goals as goal
