@@ -1,6 +1,7 @@
 -- Closed rows of a graph's edges tell of its paths.
-use Rattle.std.proofs.Common.{◌≡◌, ◌<◌, ℕ, ◌+◌, ◌*◌, ◌/◌, Bool, List, [], length, sym, ap, subst, ◌∙◌, arith}
-use Rattle.std.specs.Prelude.{Contains, IsTrue, ◌↔◌}
+use Rattle.std.proofs.Common.{◌≡◌, ◌<◌, ℕ, ◌+◌, ◌*◌, ◌/◌, ◌%◌, Bool, List, [], length, sym, ap, subst, ◌∙◌, arith}
+use Rattle.std.specs.Prelude.{Contains, IsTrue, ◌↔◌, slice_index}
+use Rattle.std.specs.Int.{bit_at}
 use Rattle.std.proofs.lemmas.Nat.{row_fits}
 use Rattle.jr_flow.specs.Edges.{EdgeOf, AreBelow}
 use Rattle.jr_flow.specs.Paths as paths
@@ -9,6 +10,7 @@ use Rattle.jr_flow.specs.Rows.{Has, width_of}
 use Rattle.jr_flow.specs.Holding.{HoldsNumbers, HoldsEdges}
 use Rattle.jr_flow.specs.Closure.{Derived, at_once, onward, Closes}
 use Rattle.jr_flow.proofs.Filled.{contains_none, edge_ends}
+use Rattle.jr_flow.proofs.Words.{has_word, word_has}
 
 -- with fewer stops there are more paths
 pub fewer_stops : (E : ℕ → ℕ → Type 0) (S T : ℕ → Type 0) → ((n : ℕ) → T n → S n) → (a c : ℕ) → PathBetween E S a c → PathBetween E T a c
@@ -59,6 +61,27 @@ pub inside_rows : (size width from to : ℕ) (words : List ℕ) → width ≡ wi
 inside_rows size width from to words wide whole low high =
     let rows : length words ≡ 64 * width * width = whole ∙ sym (ap (λ w. 64 * w * w) wide) in
     omega (arith, row_fits from width (64 * width) width (omega arith) (omega arith))
+
+pub inside_word : (size width from word : ℕ) (words : List ℕ) → width ≡ width_of size → length words ≡ 64 * width_of size * width_of size → from < size → word < width
+    → from * width + word < length words
+inside_word size width from word words wide whole low lt =
+    let rows : length words ≡ 64 * width * width = whole ∙ sym (ap (λ w. 64 * w * w) wide) in
+    omega (arith, row_fits from width (64 * width) width (omega arith) (omega arith))
+
+-- a word that was read has the bits of 64 nodes
+pub word_is : (words read : List ℕ) (size width from to word r : ℕ) → read ≡ words → width ≡ width_of size → from < size → to / 64 ≡ word → r ≡ slice_index read (from * width + word)
+    → (((from < size) × (to < size) × Has words (width_of size) from to) ↔ ((from < size) × (to < size) × (bit_at r (to % 64) ≡ 1)))
+word_is words read size width from to word r is wide low at same = (λ p. (p.0, p.1, forth p.2), λ p. (p.0, p.1, back p.2))
+  where
+    forth : Has words (width_of size) from to → bit_at r (to % 64) ≡ 1
+    forth x =
+        ap (λ v. bit_at v (to % 64)) same
+        ∙ has_word read width from word to at (subst (λ (w : ℕ). Has read w from to) (sym wide) (subst (λ (ws : List ℕ). Has ws (width_of size) from to) (sym is) x))
+
+    back : bit_at r (to % 64) ≡ 1 → Has words (width_of size) from to
+    back bit =
+        subst (λ (ws : List ℕ). Has ws (width_of size) from to) is
+        (subst (λ (w : ℕ). Has read w from to) wide (word_has read width from word to at (sym (ap (λ v. bit_at v (to % 64)) same) ∙ bit)))
 
 pub comes_is : (words read : List ℕ) (size width from to : ℕ) (r : Bool) → read ≡ words → width ≡ width_of size → from < size → to < size → (IsTrue r ↔ Has read width from to)
     → (IsTrue r ↔ ((from < size) × (to < size) × Has words (width_of size) from to))

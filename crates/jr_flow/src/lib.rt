@@ -4,7 +4,8 @@
 //! reaches itself only where edges lead back to it. [`reachable`] and [`reaching`] answer for all
 //! nodes at once, the latter of paths with no stop strictly between: a stop is reached, and not
 //! passed. [`reached_from`] answers for one node, and [`used_after`] finds the least of some nodes
-//! that it reaches.
+//! that it reaches. For many nodes of one graph [`rows_of_edges`] puts its edges into rows once,
+//! and [`reached_in`] searches in these.
 //!
 //! `specs/Paths` has paths over any relation of edges, for whoever speaks of paths; `specs/Edges`
 //! the edges of a list. `rows`: rows of bits, one behind the other. `filling`: the rows of a
@@ -14,6 +15,7 @@
 #![tactic(auto)]
 
 mod closure;
+mod edge_rows;
 mod filling;
 mod graph;
 mod paths;
@@ -23,8 +25,9 @@ mod rows;
 mod search;
 mod used;
 
+pub use edge_rows::EdgeRows;
 pub use graph::Graph;
 pub use paths::{reachable, reaching};
 pub use reach::Reach;
 pub use reached::Reached;
-pub use used::{reached_from, used_after};
+pub use used::{reached_from, reached_in, rows_of_edges, used_after};

@@ -19,6 +19,14 @@ pub(crate) fn has(words: &[u64], width: usize, row: usize, column: usize) -> boo
     (words[row * width + column / 64] >> (column % 64)) & 1 == 1
 }
 
+/// The word of a row.
+pub(crate) fn word_at(words: &[u64], width: usize, row: usize, word: usize) -> u64
+    requires { row * width + word < length words.now }
+    ensures { result ≡ slice_index words.now (row * width + word) }
+{
+    words[row * width + word]
+}
+
 /// Sets the bit for the column in the row.
 pub(crate) fn put(words: &mut [u64], width: usize, row: usize, column: usize)
     requires row { row * width + column / 64 < length words.old }

@@ -1,13 +1,11 @@
 //! One node's row is closed under the edges of a graph. It stands behind the other rows, which stay
 //! as they are.
-ghost use Rattle.std.specs.Prelude.{◌≡◌, ℕ, ◌+◌, ◌*◌, ◌/◌, ◌<◌, ◌≤◌, ◌^◌, [], length};
-ghost use Rattle.jr_flow.specs.Edges.{EdgeOf};
+ghost use Rattle.std.specs.Prelude.{◌≡◌, ℕ, ◌+◌, ◌*◌, ◌/◌, ◌<◌, ◌≤◌, ◌^◌, List, length};
 ghost use Rattle.jr_flow.specs.Rows.{Moves};
 ghost use Rattle.jr_flow.specs.Holding.{HoldsEdges};
 ghost use Rattle.jr_flow.specs.Spreading.{Starts, Spreads, Searches};
 ghost use Rattle.jr_flow.specs.Searched.{IsSearched};
 
-use crate::filling::put_edges;
 use crate::rows::{has, merge};
 
 /// Adds the row of a node to the last row, if there is one.
@@ -70,24 +68,14 @@ fn spread(rows: &mut [u64], stops: &[u64], width: usize)
     }
 }
 
-/// Puts edges into empty rows, and searches from a node. The row of no numbers is handed in.
-pub(crate) fn search_edges(
-    rows: &mut [u64],
-    width: usize,
-    edges: &[(u32, u32)],
-    from: usize,
-    none: &[u64],
-    shut: &[u64],
-)
+/// Searches from a node, in rows of edges.
+pub(crate) fn search(rows: &mut [u64], width: usize, from: usize, shut: &[u64])
     requires rows { length rows.old ≡ (64 * width + 1) * width }
     requires few { width ≤ 2 ^ 26 }
-    requires none { length none.now ≡ width }
     requires shut { length shut.now ≡ width }
-    requires inside { (a b : ℕ) → EdgeOf edges.now a b → (a / 64 < width) × (b / 64 < width) }
-    requires empty { HoldsEdges width none.now [] rows.old }
-    ensures { IsSearched width edges.now from none.now shut.now rows.new }
+    ensures { (edges : List (ℕ × ℕ)) (none : List ℕ) → HoldsEdges width none edges rows.old
+        → IsSearched width edges from none shut.now rows.new }
 {
-    put_edges(rows, width, none, edges);
     start(rows, width, from);
     spread(rows, shut, width);
 }

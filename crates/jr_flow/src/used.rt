@@ -1,40 +1,50 @@
 //! What one node reaches.
-ghost use Rattle.std.specs.Prelude.{◌≡◌, ℕ, ◌+◌, ◌*◌, ◌≤◌, ◌^◌, List, [], ◌∷◌, ◌++◌};
-ghost use Rattle.std.specs.Prelude.{IfOk, Contains, length};
+ghost use Rattle.std.specs.Prelude.{ℕ, List, [], ◌∷◌, ◌++◌, IfOk, Contains};
 ghost use Rattle.jr_flow.specs.Edges.{EdgeOf};
 ghost use Rattle.jr_flow.specs.Paths.{PathBetween};
 ghost use Rattle.jr_flow.specs.Least.{IsLeast};
-ghost use Rattle.jr_flow.specs.Rows.{width_of};
 ghost use Rattle.jr_flow.specs.Nodes.{IsReached, TellsNodes};
-ghost use Rattle.jr_flow.specs.Searched.{IsSearched};
+ghost use Rattle.jr_flow.specs.Searched.{AreRowsOf};
 
-use crate::filling::row_of;
+use crate::filling::{put_edges, row_of};
 use crate::rows::width_of;
-use crate::search::search_edges;
-use crate::{Graph, Reached};
+use crate::search::search;
+use crate::{EdgeRows, Graph, Reached};
 use std::alloc::{AllocError, Global};
 
-/// The rows of a graph's edges, and behind them a row of the nodes that a node reaches. The row of
-/// no numbers is handed in.
-fn searched(
-    alloc: Global,
-    graph: &Graph,
-    width: usize,
-    from: u32,
-    none: &[u64],
-    shut: &[u64],
-) -> Result<Vec<u64>, AllocError>
-    requires width { width ≡ width_of graph.now.size }
-    requires few { width ≤ 2 ^ 26 }
-    requires none { length none.now ≡ width }
-    requires shut { length shut.now ≡ width }
-    ensures size { IfOk result (λ rows. length rows.items ≡ (64 * width + 1) * width) }
-    ensures searched { IfOk result (λ rows.
-        IsSearched width graph.now.edges.items from none.now shut.now rows.items) }
+/// The rows of a graph's edges, for searches from several of its nodes.
+pub fn rows_of_edges(alloc: Global, graph: &Graph) -> Result<EdgeRows, AllocError>
+    ensures { IfOk result (AreRowsOf graph.now.edges.items) }
 {
-    let mut rows = vec![in alloc; 0u64; (64 * width + 1) * width]?;
-    search_edges(&mut rows, width, &graph.edges, from as usize, none, shut);
-    Ok(rows)
+    let width = width_of(graph.size);
+    let none = row_of(alloc, width, &[])?;
+    let mut words = vec![in alloc; 0u64; (64 * width + 1) * width]?;
+    put_edges(&mut words, width, &none, &graph.edges);
+    Ok(EdgeRows {
+        size: graph.size,
+        words,
+    })
+}
+
+/// The nodes that a path reaches which begins at a node, has at least one edge, and has no stop
+/// strictly between; of the graph whose edges stand in these rows.
+pub fn reached_in(
+    alloc: Global,
+    rows: &EdgeRows,
+    from: u32,
+    stops: &[u32],
+) -> Result<Reached, AllocError>
+    ensures { (edges : List (ℕ × ℕ)) → AreRowsOf edges rows.now → IfOk result (TellsNodes
+        (PathBetween (EdgeOf edges) (Contains stops.now) from)) }
+{
+    let width = width_of(rows.size);
+    let shut = row_of(alloc, width, stops)?;
+    let mut words = rows.words.to_vec(alloc)?;
+    search(&mut words, width, from as usize, &shut);
+    Ok(Reached {
+        size: rows.size,
+        words,
+    })
 }
 
 /// The nodes that a path reaches which begins at a node, has at least one edge, and has no stop
@@ -48,14 +58,8 @@ pub fn reached_from(
     ensures { IfOk result (TellsNodes
         (PathBetween (EdgeOf graph.now.edges.items) (Contains stops.now) from)) }
 {
-    let width = width_of(graph.size);
-    let none = row_of(alloc, width, &[])?;
-    let shut = row_of(alloc, width, stops)?;
-    let words = searched(alloc, graph, width, from, &none, &shut)?;
-    Ok(Reached {
-        size: graph.size,
-        words,
-    })
+    let rows = rows_of_edges(alloc, graph)?;
+    reached_in(alloc, &rows, from, stops)
 }
 
 /// The least so far, with one read more.
