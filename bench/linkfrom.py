@@ -18,6 +18,18 @@ def text(folder):
                 p = os.path.join(d, f)
                 h.append((os.path.relpath(p, folder), open(p, 'rb').read()))
     return h
+texts = {}
+def text_once(folder):
+    if folder not in texts: texts[folder] = text(folder)
+    return texts[folder]
+def below(name, seen):
+    for d in needs[name]:
+        if d in mine and d not in seen:
+            seen.add(d); below(d, seen)
+    return seen
+def same(p, name):
+    """Whether the crate and all below it have the same text there: a library built over another text of what is below is another one."""
+    return all(text_once(f'{p}/crates/{d}') == text_once(f'{clone}/crates/{d}') for d in [name, *below(name, set())])
 order = [l.split(':')[0].strip() for l in open('crates.txt') if ':' in l and not l.startswith('#')]
 needs = {l.split(':')[0].strip(): l.split(':')[1].split() for l in open('crates.txt') if ':' in l and not l.startswith('#')}
 done = set()
@@ -31,7 +43,7 @@ for name in [n for n in order if n in mine]*4:
         done.add(name); continue
     for p in places:
         src = f'{p}/crates/{name}/out/rlib'
-        if os.path.exists(f'{src}/{name}.rlib') and text(f'{p}/crates/{name}') == text(f'{clone}/crates/{name}'):
+        if os.path.exists(f'{src}/{name}.rlib') and same(p, name):
             shutil.rmtree(out, ignore_errors=True)
             os.makedirs(os.path.dirname(out), exist_ok=True)
             subprocess.run(['cp', '-al', src, out], check=True)
