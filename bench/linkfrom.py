@@ -1,55 +1,85 @@
 #!/usr/bin/env python3
-"""linkfrom.py CLONE: links into the clone what running gates (/tmp/rt-copy-*/repo) and clones beside it have built of the same text."""
-import glob, importlib.util, importlib.machinery, os, sys, shutil, subprocess
-clone = os.path.realpath(sys.argv[1])
-spec = importlib.util.spec_from_file_location("clones", clone + "/bench/clones.py")
-m = importlib.util.module_from_spec(spec); spec.loader.exec_module(m)
-m.ROOT = clone
-m.remember_stamps()
-os.chdir(clone)
-mine = {c.name: c for c in m.LIB.crates_below(clone)}
-places = [p for p in glob.glob('/tmp/rt-copy-*/repo') + glob.glob(os.path.dirname(clone) + '/*') if os.path.isdir(p + '/crates') and os.path.realpath(p) != clone]
-def text(folder):
-    h = []
-    for base in ('src', 'specs', 'proofs'):
-        for d, ds, fs in os.walk(os.path.join(folder, base)):
-            ds.sort()
-            for f in sorted(fs):
-                p = os.path.join(d, f)
-                h.append((os.path.relpath(p, folder), open(p, 'rb').read()))
-    return h
-texts = {}
-def text_once(folder):
-    if folder not in texts: texts[folder] = text(folder)
-    return texts[folder]
-def below(name, seen):
-    for d in needs[name]:
-        if d in mine and d not in seen:
-            seen.add(d); below(d, seen)
-    return seen
-def same(p, name):
-    """Whether the crate and all below it have the same text there: a library built over another text of what is below is another one."""
-    return all(text_once(f'{p}/crates/{d}') == text_once(f'{clone}/crates/{d}') for d in [name, *below(name, set())])
-order = [l.split(':')[0].strip() for l in open('crates.txt') if ':' in l and not l.startswith('#')]
-needs = {l.split(':')[0].strip(): l.split(':')[1].split() for l in open('crates.txt') if ':' in l and not l.startswith('#')}
-done = set()
-for name in [n for n in order if n in mine]*4:
-    if name in done: continue
-    out = f'{clone}/crates/{name}/out/rlib'
-    if any(d in mine and d not in done for d in needs[name]):
-        print('below lacks:', name); continue
-    c = mine[name]
-    if os.path.exists(out) and os.path.exists(out + '/stamp') and open(out + '/stamp').read() == c.stamp():
-        done.add(name); continue
-    for p in places:
-        src = f'{p}/crates/{name}/out/rlib'
-        if os.path.exists(f'{src}/{name}.rlib') and same(p, name):
-            shutil.rmtree(out, ignore_errors=True)
-            os.makedirs(os.path.dirname(out), exist_ok=True)
-            subprocess.run(['cp', '-al', src, out], check=True)
-            st = out + '/stamp'
-            if os.path.exists(st): os.remove(st)
-            open(st, 'w').write(c.stamp())
-            done.add(name); print('linked', name, 'from', p); break
+"""linkfrom.py CLONE: gives the clone the libraries that `rt ci` keeps on this machine of the same text, over the same libraries.
+
+What isn't kept there is taken from a clone beside this one that built it of the same text over the very same libraries:
+a library built over another build of what is below can't be used beside it. What the clone built itself stays where
+nothing is kept. It prints what it linked and what is lacking.
+"""
+import glob
+import hashlib
+import importlib.util
+import json
+import os
+import shutil
+import sys
+
+CLONE = os.path.realpath(sys.argv[1])
+spec = importlib.util.spec_from_file_location("clones", f"{os.path.dirname(os.path.realpath(__file__))}/clones.py")
+CLONES = importlib.util.module_from_spec(spec)
+spec.loader.exec_module(CLONES)
+CLONES.remember_stamps()
+KIT, LIB = CLONES.KIT, CLONES.LIB
+os.chdir(CLONE)
+LIB.Crate = KIT.Crate
+KIT.Crate.allowed = KIT.handles_of(CLONE)
+CRATES = sorted(LIB.crates_below(CLONE), key=lambda it: len(it.below()))
+KEPT = KIT.Kept(CRATES)
+
+
+def sum_of_files(files):
+    return hashlib.sha256(repr([(path, sum) for path, sum in files]).encode()).hexdigest()
+
+
+def from_store(crate, key):
+    """Links what is kept under the key, unless it stands there already; answers the sum of its files."""
+    at, out = KEPT.place(crate, False, key), f"{crate.folder}/out"
+    if not os.path.isfile(f"{at}/made.json"):
+        return None
+    with open(f"{at}/made.json", encoding="utf-8") as it:
+        files = json.load(it)["files"]
+    mark = f"{out}/rlib/kept-key"
+    if LIB.text_of(mark) != key:
+        shutil.rmtree(f"{out}/rlib", ignore_errors=True)
+        if not KEPT.give(crate, False, key):
+            return None
+        with open(mark, "w", encoding="utf-8") as it:
+            it.write(key)
+        print("linked", crate.name)
+    with open(f"{out}/rlib/stamp", "w", encoding="utf-8") as it:
+        it.write(crate.stamp())
+    return sum_of_files(files)
+
+
+def formats(crate, top):
+    return [LIB.sum_of(f"{top}/{it.name}/out/rlib/{it.name}.rlib/format") for it in crate.below()]
+
+
+def from_clone(crate):
+    """Links what a clone beside this one has built of the same text, over the same libraries."""
+    stamp, own = crate.stamp(), formats(crate, f"{CLONE}/crates")
+    for there in glob.glob(f"{CLONE}/../*/crates/{crate.name}/out/rlib/stamp"):
+        top = os.path.realpath(f"{there}/../../../..")
+        if top != f"{CLONE}/crates" and LIB.text_of(there) == stamp and formats(crate, top) == own:
+            to = f"{crate.folder}/out/rlib"
+            shutil.rmtree(to, ignore_errors=True)
+            os.makedirs(os.path.dirname(to), exist_ok=True)
+            shutil.copytree(os.path.dirname(there), to, copy_function=os.link)
+            print("linked", crate.name, "from", os.path.dirname(top))
+            return True
+    return False
+
+
+for crate in CRATES:
+    if not crate.makes_rlib():
+        continue
+    below = [it.name for it in crate.below() if it.name not in KEPT.rlibs]
+    if below:
+        print("lacking", crate.name, "for", below[0])
+        continue
+    found = from_store(crate, KEPT.key(crate))
+    if found:
+        KEPT.rlibs[crate.name] = found
+    elif crate.is_built() or from_clone(crate):
+        KEPT.is_built(crate)
     else:
-        print('lacking', name)
+        print("lacking", crate.name)
