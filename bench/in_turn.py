@@ -1,5 +1,5 @@
 #!/usr/bin/env python3
-"""bench/queue.py COMMAND ..: runs the command when its turn comes among all that wait on this machine: first come first served, at most so
+"""bench/in_turn.py COMMAND ..: runs the command when its turn comes among all that wait on this machine: first come first served, at most so
 many at once as /tmp/queue-slots says (else 3), and only with 3 GB free. Q_FIRST=1 in the environment goes before those that wait."""
 import os, subprocess, sys, time
 ROOM = "/tmp/queue"
