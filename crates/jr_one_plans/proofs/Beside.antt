@@ -2,7 +2,7 @@
 -- member the same is known.
 use Rattle.std.proofs.Common.{◌≡◌, ℕ, ◌+◌, List, [], ◌∷◌, map, Option, Some, None, true, refl, sym, ap, subst, ◌∙◌, inl, inr, zero, suc, le_antisymm}
 use Rattle.std.specs.Prelude.{◌⊎◌, ◌↔◌, slice_get, option_map, Contains}
-use Rattle.std.proofs.lemmas.Option.{none-some, same_Some, slice_get-map}
+use Rattle.std.proofs.lemmas.Option.{none-some, same_Some, slice_get_within, get_or_from_slice_get, slice_get-map}
 use Rattle.jr_text.specs.declared.spans.Span.{Span}
 use Rattle.jr_ast.specs.MemberTree as syntax
 use Rattle.jr_grammar.specs.Layout.{itself}
@@ -120,16 +120,15 @@ bound_at rows s (v ∷ ws) (c ∷ bs) zero w b are e f =
 bound_at rows s (v ∷ ws) (c ∷ bs) (suc n) w b are e f = bound_at rows s ws bs n w b are.1 e f
 
 contains_at : {X : Type 0} (xs : List X) (n : ℕ) (x : X) → slice_get xs n ≡ Some x → Contains xs x
-contains_at [] n x e = absurd (nothing_stands n x e)
-contains_at (y ∷ xs) zero x e = inl (same_Some y x e)
-contains_at (y ∷ xs) (suc n) x e = inr (contains_at xs n x e)
+contains_at xs n x e = (n, slice_get_within xs n x e, get_or_from_slice_get xs n x x e)
 
 module _ (written : MembersAreWritten Span) (p : Program Span) (t : MemberKey → ℕ) (bs : List Bound) (is : IsWhole p) (also : IsWhole (beside p t bs)) where
-  bounds_alike : (n : ℕ) (w : WrittenMember Span) (b c : Bound) → slice_get (written_members begins p.rows (units_of p)) n ≡ Some w → slice_get p.bounds n ≡ Some b → slice_get bs n ≡ Some c → AnswerAlike b c
-  bounds_alike n w b c stands here there =
-      let writes = (written begins (units_of p) p.rows is.are_rows is.rows).each w (contains_at (written_members begins p.rows (units_of p)) n w stands) in
+  bounds_alike : (i j : ℕ) (w : WrittenMember Span) (b c : Bound) → slice_get (written_members begins p.rows (units_of p)) i ≡ Some w → slice_get (written_members begins p.rows (units_of p)) j ≡ Some w → slice_get p.bounds i ≡ Some b → slice_get bs j ≡ Some c
+      → AnswerAlike b c
+  bounds_alike i j w b c stands also_stands here there =
+      let writes = (written begins (units_of p) p.rows is.are_rows is.rows).each w (contains_at (written_members begins p.rows (units_of p)) i w stands) in
       answer_alike p.rows (p.super_at w.key) (t w.key) w.key w.base w.part (super_same written p t bs is also w.file w.key w.base w.part writes) b c
-      (bound_at p.rows p.super_at (written_members begins p.rows (units_of p)) p.bounds n w b is.bound stands here) (bound_at p.rows t (written_members begins p.rows (units_of p)) bs n w c also.bound stands there)
+      (bound_at p.rows p.super_at (written_members begins p.rows (units_of p)) p.bounds i w b is.bound stands here) (bound_at p.rows t (written_members begins p.rows (units_of p)) bs j w c also.bound also_stands there)
 
   pub one_beside : AreOneProgram p (beside p t bs)
   one_beside = record { rows = refl; supers = super_same written p t bs is also; bounds = bounds_alike }

@@ -170,6 +170,7 @@ module _ (rows : List Row) (fit : AreRows rows) (each : EachHasOne rows) (bounds
   super_field_once c at old a b x y =
       let same = field_key x.0 y.0 (one_super_field rows fit each c (bounds c) old (one (field_decl x.0)) (one (field_decl y.0)) x.1 y.1) in
       above c at old x.0 a b x.2 (subst (λ (q : FieldKey). Above c at old q b) (sym same) y.2)
+
   -- ---- both
 
   pub name_once : (c : Context) (r : Role) (at : ℕ) (old : List ℕ) (a b : Choice) → VariableChoice begins rows R c at old a ⊎ ClassChoice begins rows R c r at old a → VariableChoice begins rows R c at old b ⊎ ClassChoice begins rows R c r at old b → a ≡ b

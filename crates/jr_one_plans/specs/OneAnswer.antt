@@ -33,9 +33,10 @@ pub record AreOneProgram (p q : Program Span) : Type 0 where
   pub supers : (file : ℕ) (k : MemberKey) (base : ℕ) (part : Part Span)
       → IsWritten begins (units_of p) file k base part → writes_super part ≡ true
       → p.super_at k ≡ q.super_at k
-  pub bounds : (n : ℕ) (w : WrittenMember Span) (b c : Bound)
-      → slice_get (written_members begins p.rows (units_of p)) n ≡ Some w
-      → slice_get p.bounds n ≡ Some b → slice_get q.bounds n ≡ Some c → AnswerAlike b c
+  pub bounds : (i j : ℕ) (w : WrittenMember Span) (b c : Bound)
+      → slice_get (written_members begins p.rows (units_of p)) i ≡ Some w
+      → slice_get (written_members begins p.rows (units_of p)) j ≡ Some w
+      → slice_get p.bounds i ≡ Some b → slice_get q.bounds j ≡ Some c → AnswerAlike b c
 
 abbrev pub FilesHaveOneProgram : Type 0
 FilesHaveOneProgram = (p q : Program Span) → IsProgram itself (λ m b. Unit {0}) p
