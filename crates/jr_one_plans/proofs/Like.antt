@@ -1,20 +1,21 @@
 -- Regions that make the same of a program: what is chosen by the one is chosen by the other.
-use Rattle.std.proofs.Common.{◌≡◌, ℕ, List, Option, Some, None, sym, subst, inl, inr}
+use Rattle.std.proofs.Common.{◌≡◌, ℕ, List, Option, Some, None, false, sym, subst, inl, inr}
 use Rattle.jr_text.specs.declared.spans.Span.{Span}
 use Rattle.jr_ast.specs.Tree as tree
 use Rattle.jr_table.specs.Keys.{ClassKey, Ty}
-use Rattle.jr_table.specs.Decls.{LocalKey, Decl, class_decl, field_decl, method_decl, constructor_decl, local_decl}
+use Rattle.jr_table.specs.Decls.{head, LocalKey, Decl, class_decl, field_decl, method_decl, constructor_decl, local_decl}
 use Rattle.jr_table.specs.Rows.{Row}
 use Rattle.jr_table.specs.Found.{Found, one, nothing, many, not_accessible, from_static}
+use Rattle.jr_table.specs.Prelude.{top_key}
 use Rattle.jr_table.specs.Scope.{Scope}
 use Rattle.jr_table.specs.Context.{Context}
 use Rattle.jr_table.specs.Binding.{Role, value, left}
 use Rattle.jr_table.specs.Binding as role
-use Rattle.jr_spell.specs.References.{Reference}
+use Rattle.jr_table.specs.HeadRules.{plain}
 use Rattle.jr_rewrite.specs.Respellings.{Choice}
 use Rattle.jr_images.specs.Regions.{Images, Seen, Receiver, Region}
 use Rattle.jr_images.specs.Words.{InFront, class_name, value_of, neither, IsOfClass, Stands, FindsBetween, FirstWord, NextWord, AreWords}
-use Rattle.jr_images.specs.Spelling.{TakenChoice, ClassChoice, FieldChoice, MemberClassChoice, CallChoice, ExpChoice, CreationChoice, SuperCtorChoice, TypeChoice, QualifierChoice, ParentChoice, ParentQualifierChoice}
+use Rattle.jr_images.specs.Spelling.{ClassChoice, FieldChoice, MemberClassChoice, CallChoice, ExpChoice, CreationChoice, SuperCtorChoice, TypeChoice, QualifierChoice, ParentChoice, ParentQualifierChoice}
 use Rattle.jr_program_laws.specs.FileParts.{begins}
 
 -- what a region makes of keys, scopes and types
@@ -136,14 +137,14 @@ module _ (rows : List Row) (m : Made Span) (H K : Context → LocalKey → Class
   qualifier_over c base (tree.named n (Some v) w) h x = x
 
   pub parent_over : (outer : Option (List ℕ)) (base : ℕ) (t : tree.TypeName Span) (h : Choice) → ParentChoice begins rows R outer base t h → ParentChoice begins rows Q outer base t h
-  parent_over (Some outer) base t h x = type_over _ base t h x
+  parent_over (Some outer) base t h x = type_over (plain (head (top_key outer)) false) base t h x
   parent_over None base (tree.int n) h x = absurd x
   parent_over None base (tree.boolean n) h x = absurd x
   parent_over None base (tree.named n (Some v) w) h x = absurd x
   parent_over None base (tree.named n None w) h x = x
 
   pub parent_qualifier_over : (outer : Option (List ℕ)) (base : ℕ) (t : tree.TypeName Span) (h : Choice) → ParentQualifierChoice begins rows R outer base t h → ParentQualifierChoice begins rows Q outer base t h
-  parent_qualifier_over (Some outer) base t h x = qualifier_over _ base t h x
+  parent_qualifier_over (Some outer) base t h x = qualifier_over (plain (head (top_key outer)) false) base t h x
   parent_qualifier_over None base t h x = absurd x
 
 -- ---- of two regions that are alike
