@@ -67,8 +67,9 @@ module _ (bytes : List ℕ) (piece : Span) (all : List Change) where
       let rest : List ℕ = join_changes c.span.to (take piece.to bytes) left in
       let part = front_part bytes at c.span.from piece.to p.fit.0 (omega (arith, ordered, end)) in
       let groups : ((done ++ gap) ++ c.text) ++ rest ≡ done ++ (gap ++ (c.text ++ rest)) = simp append_assoc in
+      let before : done ++ (take (c.span.from - at) (drop at (take piece.to bytes)) ++ (c.text ++ rest)) ≡ with_changes bytes piece all = p.joined in
       record {
-        joined = ap (λ xs. xs ++ rest) eq ∙ groups ∙ ap (λ xs. done ++ (xs ++ (c.text ++ rest))) (sym part) ∙ p.joined;
+        joined = ap (λ xs. xs ++ rest) eq ∙ groups ∙ ap (λ xs. done ++ (xs ++ (c.text ++ rest))) (sym part) ∙ before;
         fit = p.fit.4;
         within = λ k d lt. p.within (suc k) d (omega (arith, lt));
         reaches = end;

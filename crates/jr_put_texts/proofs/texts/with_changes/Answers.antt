@@ -6,7 +6,7 @@ use Rattle.jr_put_texts.proofs.Pieces.{Putting, begins, gap_cut, more, rest_cut,
 use Rattle.jr_put_texts.proofs.texts.with_changes.Goals as goal
 
 pub loop-change-init : goal.loop-change-init
-loop-change-init c = begins c.args.text.now c.args.piece (changes_of c.args.changes.now) _ c.requires.cut c.requires.fit c.requires.within c.new-made.ensures
+loop-change-init c = begins c.args.text.now c.args.piece (changes_of c.args.changes.now) _ c.requires.cut c.requires.fit c.requires.within c.new-made.ensures.bytes
 
 pub part-requires : goal.part-requires
 part-requires c =
@@ -23,8 +23,8 @@ loop-change-preserved c =
     let both : string_bytes c.push_str-in-loop-change.new.self ≡ (string_bytes c.loop-change.made ++ part_of c.args.text.now (span_of c.loop-change.at c.change-item.result.span.from)) ++ string_bytes c.change-item.result.text = cc (c.part.ensures, c.as_str.ensures.value, gap, text) in
     more c.args.text.now c.args.piece (changes_of c.args.changes.now) (change_of c.change-item.result) rest (string_bytes c.loop-change.made) _ c.loop-change.at here both
 
-pub part-2-requires : goal.part-2-requires
-part-2-requires c =
+pub part-requires-2 : goal.part-requires-2
+part-requires-2 c =
     let done : Putting c.args.text.now c.args.piece (changes_of c.args.changes.now) [] (string_bytes c.loop-change.made) c.loop-change.at = rw (drop_all c.loop-change.change-index c.args.changes.now c.loop-change-test.false) at c.loop-change.invariant in
     rest_cut c.args.text.now c.args.piece (changes_of c.args.changes.now) (string_bytes c.loop-change.made) c.loop-change.at c.requires.cut done
 
