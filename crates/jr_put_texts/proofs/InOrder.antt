@@ -1,17 +1,16 @@
 -- Items stand in order by where they begin, and by where they end, so that one at most begins, or
 -- ends, at a place, and a search by halves finds it.
 use Rattle.std.proofs.Common.{◌≡◌, ℕ, zero, suc, ◌+◌, ◌<◌, ◌≤◌, List, [], ◌∷◌, ◌++◌, length, get_or, Bool, true, false, refl, sym, ap, subst, ◌∙◌, arith, append_assoc, inl, inr}
-use Rattle.std.specs.Prelude.{Option, Some, None, nat_eq, nat_lt, fold, if◌then◌else◌, ◌⊎◌}
+use Rattle.std.specs.Prelude.{Option, None, nat_eq, nat_lt, if◌then◌else◌, ◌⊎◌}
 use Rattle.std.specs.List.Sorted.{IsNonDecreasingBy, IsPartitionPoint}
-use Rattle.std.proofs.lemmas.Bool.{ne_eqb, ltb-true, ltb-false}
-use Rattle.std.proofs.Math.Dec.{eq-eqb}
+use Rattle.std.proofs.lemmas.Bool.{eq-eqb, ne_eqb, ltb-true, ltb-false}
 use Rattle.std.proofs.lemmas.List.{get_or_read}
 use Rattle.std.proofs.lemmas.List.Sums.{fold-append}
 use Rattle.std.proofs.lemmas.List.Sorted.{IsNonDecreasingBy-from_all_adjacent}
 use Rattle.jr_lex.specs.declared.items.Item.{Item}
 use Rattle.jr_lex.specs.declared.items.TokenKind.{TokenKind}
 use Rattle.jr_lex.specs.Lexes.{Lexes}
-use Rattle.jr_lex.specs.Places.{IsPlaced, ItemsPlaced, end_of}
+use Rattle.jr_lex.specs.Places.{ItemsPlaced, end_of}
 use Rattle.jr_moved_texts.specs.Spaces.{token_in, ending_at, beginning_at}
 
 abbrev pub from_of : Item → ℕ
@@ -45,7 +44,7 @@ module _ (bytes : List ℕ) (law : ItemsPlaced) where
   behind : (front : List Item) (x : Item) (xs : List Item) → Lexes bytes (front ++ x ∷ xs) → Lexes bytes ((front ++ x ∷ []) ++ xs)
   behind front x xs l = subst (Lexes bytes) (sym (append_assoc front (x ∷ []) xs)) l
 
-  rises_from : (front items : List Item) (low : ℕ) → Lexes bytes (front ++ items) → low ≤ end_of front → Rises from_of low items
+  pub rises_from : (front items : List Item) (low : ℕ) → Lexes bytes (front ++ items) → low ≤ end_of front → Rises from_of low items
   rises_from front [] low l le = tt
   rises_from front (x ∷ xs) low l le =
       let p = law bytes front x xs l in
@@ -54,7 +53,7 @@ module _ (bytes : List ℕ) (law : ItemsPlaced) where
       let end = end_behind front x in
       (omega (arith, le, from), rises_from (front ++ x ∷ []) xs (suc x.span.from) (behind front x xs l) (omega (arith, some, end)))
 
-  rises_to : (front items : List Item) (low : ℕ) → Lexes bytes (front ++ items) → low ≤ suc (end_of front) → Rises to_of low items
+  pub rises_to : (front items : List Item) (low : ℕ) → Lexes bytes (front ++ items) → low ≤ suc (end_of front) → Rises to_of low items
   rises_to front [] low l le = tt
   rises_to front (x ∷ xs) low l le =
       let p = law bytes front x xs l in
@@ -78,7 +77,7 @@ module _ (key : Item → ℕ) where
   adjacent (x ∷ xs) low (suc k) d r lt = adjacent xs (suc (key x)) k d r.1 (omega (arith, lt))
 
   pub ascending : (items : List Item) (low : ℕ) → Rises key low items → IsNonDecreasingBy key items
-  ascending items low r = IsNonDecreasingBy-from_all_adjacent key items (λ k d lt high.
+  ascending items low r = IsNonDecreasingBy-from_all_adjacent key items (λ k d high.
       let one : k + 1 ≡ suc k = omega arith in
       let l = adjacent items low k d r (omega (arith, high)) in
       let same : key (get_or items (k + 1) d) ≡ key (get_or items (suc k) d) = ap (λ n. key (get_or items n d)) one in

@@ -1,5 +1,5 @@
 -- A piece of a text with its own changes, as it is put together from left to right.
-use Rattle.std.proofs.Common.{◌≡◌, ℕ, suc, ◌+◌, ◌-◌, ◌<◌, ◌≤◌, List, [], ◌∷◌, ◌++◌, length, get_or, take, drop, map, sym, ap, ◌∙◌, refl, subst, arith, append_assoc, string_bytes}
+use Rattle.std.proofs.Common.{◌≡◌, ℕ, suc, ◌+◌, ◌-◌, ◌<◌, ◌≤◌, List, [], ◌∷◌, ◌++◌, length, get_or, take, drop, map, sym, ap, ◌∙◌, arith, append_assoc}
 use Rattle.std.specs.List.{All}
 use Rattle.std.specs.Str.{IsCharBoundary}
 use Rattle.std.proofs.lemmas.List.{drop_more, drop-take, take-take}
@@ -66,10 +66,10 @@ module _ (bytes : List ℕ) (piece : Span) (all : List Change) where
       let gap : List ℕ = part_of bytes (span_of at c.span.from) in
       let rest : List ℕ = join_changes c.span.to (take piece.to bytes) left in
       let part = front_part bytes at c.span.from piece.to p.fit.0 (omega (arith, ordered, end)) in
-      let groups : ((done ++ gap) ++ c.text) ++ rest ≡ done ++ (gap ++ (c.text ++ rest)) = simp append_assoc in
-      let before : done ++ (take (c.span.from - at) (drop at (take piece.to bytes)) ++ (c.text ++ rest)) ≡ with_changes bytes piece all = p.joined in
+      let groups : ((done ++ gap) ++ c.text) ++ rest ≡ done ++ ((gap ++ c.text) ++ rest) = simp append_assoc in
+      let before : done ++ (take (c.span.from - at) (drop at (take piece.to bytes)) ++ c.text ++ rest) ≡ with_changes bytes piece all = p.joined in
       record {
-        joined = ap (λ xs. xs ++ rest) eq ∙ groups ∙ ap (λ xs. done ++ (xs ++ (c.text ++ rest))) (sym part) ∙ before;
+        joined = ap (λ xs. xs ++ rest) eq ∙ groups ∙ ap (λ xs. done ++ ((xs ++ c.text) ++ rest)) (sym part) ∙ before;
         fit = p.fit.4;
         within = λ k d lt. p.within (suc k) d (omega (arith, lt));
         reaches = end;
