@@ -73,8 +73,8 @@ module _ (p : Program Span) (file at : ℕ) (f : Found p file at) where
   free k j r is =
       let declares : r.row.decl ≡ decl_of_member (in_class to moved) = r.declares ∙ ap decl_of_member is in
       both_ways (same_decl r.row.decl (decl_of_member (in_class to moved)))
-      ((decl_decides r.row.decl (decl_of_member (in_class to moved))).1 declares)
       (first_false (same_decl r.row.decl (decl_of_member (in_class to moved))) _ (f.free.free j r.row r.stands))
+      ((decl_decides r.row.decl (decl_of_member (in_class to moved))).1 declares)
 
   alone : (k : MemberKey) (j : ℕ) → IsRowOf p.rows (decl_of_member k) j → image_of_member m k ≡ image_of_member m moved → k ≡ moved
   alone k j r same = by_test (same_member k moved) (member_decides k moved)
