@@ -20,8 +20,8 @@ use Rattle.jr_one_plans.proofs.OneCrossing.{crossing_once}
 same_test : (b c : Bool) → (IsTrue b → IsTrue c) → (IsTrue c → IsTrue b) → b ≡ c
 same_test true true to from = refl
 same_test false false to from = refl
-same_test true false to from = absurd (to tt)
-same_test false true to from = absurd (from tt)
+same_test true false to from = absurd (let e = to refl in cc)
+same_test false true to from = absurd (let e = from refl in cc)
 
 module _ (p : Program Span) (file : ℕ) (b : Body) where
   one_test : (m n : tree.Exp Span → Bool) → TellsNeverNull p b m → TellsNeverNull p b n → m ≡ n
