@@ -1,6 +1,6 @@
 -- Around a list that is a spot all stays: where `stays` is chosen for each word, what comes of the
 -- whole is what the spot makes of the list.
-use Rattle.std.proofs.Common.{◌≡◌, ℕ, ◌+◌, List, [], ◌++◌, Some, None, refl, sym, subst, ◌∙◌, arith}
+use Rattle.std.proofs.Common.{◌≡◌, ℕ, ◌+◌, List, Some, None, refl, sym, subst, ◌∙◌, arith}
 use Rattle.std.proofs.lemmas.List.{append-nil}
 use Rattle.std.specs.Prelude.{Option}
 use Rattle.jr_text.specs.declared.spans.Span.{Span}
@@ -11,9 +11,9 @@ use Rattle.jr_table.specs.Binding as role
 use Rattle.jr_table.specs.Context.{Context, in_own, local_of}
 use Rattle.jr_grammar.specs.Shape.{unsigned_level, sign_level, rank_of}
 use Rattle.jr_rewrite.specs.Respellings.{stays, front_of}
-use Rattle.jr_rewrite.specs.Rewritten.{Rewritten, plain, within, joined, word_out, simple_call_out, dotted_call_out}
+use Rattle.jr_rewrite.specs.Rewritten.{Rewritten, plain, within, joined, simple_call_out, dotted_call_out}
 use Rattle.jr_rewrite.specs.Spots.{Asks, level, a_target, a_statement, operand_asks, Spotted, OrThis, OrPart, OrList}
-use Rattle.jr_rewrite.specs.Rewrites.{Choosing, RewritesType, TransformsExp, TransformsTarget, TransformsRow, TransformsPart, TransformsMaybe, TransformsStmt, TransformsElse, TransformsStmts, TransformsList}
+use Rattle.jr_rewrite.specs.Rewrites.{Choosing, RewritesType, TransformsExp, TransformsTarget, TransformsRow, TransformsPart, TransformsStmt, TransformsElse, TransformsStmts, TransformsList}
 use Rattle.jr_pieces.specs.Ways.{StmtWay, in_init, in_eval, in_condition, in_then, in_else, in_turning, in_body, in_returned, in_block, in_lock, in_locked, ListWay, first, later}
 use Rattle.jr_pieces.specs.Standings.{Standing, inside, behind, in_other}
 use Rattle.jr_pieces.specs.Nearest.{Element, or_element, element_within, nearest}

@@ -12,7 +12,7 @@ use Rattle.jr_grammar.specs.Shape.{unsigned_level, sign_level, rank_of}
 use Rattle.jr_rewrite.specs.Respellings.{Choice, front_of}
 use Rattle.jr_rewrite.specs.Rewritten.{Rewritten}
 use Rattle.jr_rewrite.specs.Spots.{Asks, level, a_target, a_statement, operand_asks, Spotted, OrThis, OrPart, OrList}
-use Rattle.jr_rewrite.specs.Rewrites.{Choosing, RewritesType, DeclaredOut, TransformsExp, TransformsTarget, TransformsRow, TransformsPart, TransformsMaybe, TransformsStmt, TransformsElse, TransformsStmts, TransformsList}
+use Rattle.jr_rewrite.specs.Rewrites.{Choosing, RewritesType, TransformsExp, TransformsTarget, TransformsRow, TransformsPart, TransformsStmt, TransformsElse, TransformsStmts, TransformsList}
 use Rattle.jr_pieces.specs.Ways.{ExpWay, here, in_front, in_target, in_argument, in_super_argument, in_created, in_paren, in_cast, in_unary, in_bump, in_left, in_right, in_assigned, in_value, in_changed, in_change, ExpsWay, first_argument, later_argument, StmtWay, in_init, in_eval, in_condition, in_then, in_else, in_turning, in_body, in_returned, in_block, in_lock, in_locked, ListWay, first, later}
 use Rattle.jr_pieces.specs.Standings.{Standing, inside, behind, in_other, in_initializer, at_exp, at_exps, at_stmt, at_list}
 
