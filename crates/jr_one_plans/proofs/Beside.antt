@@ -1,12 +1,11 @@
 -- Programs of the same files have the same rows, each written `super(..)` at one place, and of each
 -- member the same is known.
-use Rattle.std.proofs.Common.{◌≡◌, ℕ, ◌+◌, List, [], ◌∷◌, map, Option, Some, None, true, refl, sym, ap, subst, ◌∙◌, inl, inr, zero, suc, le_antisymm}
-use Rattle.std.specs.Prelude.{◌⊎◌, ◌↔◌, slice_get, option_map, Contains}
+use Rattle.std.proofs.Common.{◌≡◌, ℕ, List, [], ◌∷◌, map, Option, Some, None, true, refl, sym, ap, subst, ◌∙◌, inl, inr, zero, suc, le_antisymm}
+use Rattle.std.specs.Prelude.{slice_get, option_map, Contains}
 use Rattle.std.proofs.lemmas.Option.{none-some, same_Some, slice_get_within, get_or_from_slice_get, slice_get-map}
 use Rattle.jr_text.specs.declared.spans.Span.{Span}
 use Rattle.jr_ast.specs.MemberTree as syntax
 use Rattle.jr_grammar.specs.Layout.{itself}
-use Rattle.jr_table.specs.Keys.{Ty}
 use Rattle.jr_table.specs.Decls.{MemberKey, head, field, method, constructor, Decl}
 use Rattle.jr_table.specs.Rows.{Row}
 use Rattle.jr_table.specs.Found.{Found, one}

@@ -1,18 +1,14 @@
 -- One step has one plan, or is refused for one reason: what a refactoring whose regions are alike
 -- shows for that.
-use Rattle.std.proofs.Common.{◌≡◌, ℕ, List, [], true, map, filter, not, sym, ap, subst, ◌∙◌}
-use Rattle.std.specs.Prelude.{slice_get}
+use Rattle.std.proofs.Common.{◌≡◌, ℕ, List, [], true, map, filter, not, sym, ap, subst}
 use Rattle.jr_text.specs.declared.spans.Span.{Span}
-use Rattle.jr_ast.specs.MemberTree as syntax
 use Rattle.jr_sync.specs.declared.sites.DepKind.{DepKind}
-use Rattle.jr_table.specs.Keys.{ClassKey, MethodKey}
-use Rattle.jr_table.specs.Decls.{MemberKey, head, field, method, constructor, Decl, class_decl, field_decl, method_decl, constructor_decl, local_decl}
+use Rattle.jr_table.specs.Decls.{MemberKey, Decl, class_decl, field_decl, method_decl, constructor_decl, local_decl}
 use Rattle.jr_table.specs.SameDecls.{same_decl}
 use Rattle.jr_table.specs.Rows.{Row}
 use Rattle.jr_table.specs.DeclaredItems.{declarations_of}
 use Rattle.jr_table.specs.LookupLaws.{KeysFound, OneAnswer}
 use Rattle.jr_table.specs.BindingLaws.{AreBound}
-use Rattle.jr_table.specs.Context.{Context}
 use Rattle.jr_names.specs.Refusals.{Refusal}
 use Rattle.jr_names.specs.Sites.{SiteAt}
 use Rattle.jr_members.specs.WrittenLaws.{MembersAreWritten}
@@ -26,7 +22,7 @@ use Rattle.jr_plan.specs.Transforms.{Lost, Transform, Transformed, Refactoring, 
 use Rattle.jr_plan.specs.Reasons.{images_in, ChangesDispatch, KeepsDispatch, row_image, pairs_of, HasOnePlan}
 use Rattle.jr_plan.proofs.Alone as alone
 use Rattle.jr_one_plans.proofs.WordsOnce.{SeenOnce}
-use Rattle.jr_one_plans.proofs.Like.{Made, AreLike, made_of}
+use Rattle.jr_one_plans.proofs.Like.{Made, AreLike}
 use Rattle.jr_one_plans.proofs.RegionsAgree.{regions_agree}
 use Rattle.jr_one_plans.proofs.OneSpot.{SpottedAgree}
 use Rattle.jr_one_plans.proofs.OneFile.{files_one}

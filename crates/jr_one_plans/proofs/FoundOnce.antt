@@ -3,7 +3,7 @@ use Rattle.std.proofs.Common.{◌≡◌, ℕ, List, Option, Some, None, sym, ap,
 use Rattle.std.specs.Prelude.{slice_get}
 use Rattle.std.proofs.lemmas.Option.{same_Some}
 use Rattle.jr_ast.specs.Tree as tree
-use Rattle.jr_table.specs.Keys.{ClassKey, FieldKey, MethodKey, CtorKey, Ty, class}
+use Rattle.jr_table.specs.Keys.{ClassKey, FieldKey, MethodKey, CtorKey, class}
 use Rattle.jr_table.specs.Decls.{LocalKey, Decl, class_decl, field_decl, method_decl, constructor_decl, local_decl}
 use Rattle.jr_table.specs.Rows.{Row}
 use Rattle.jr_table.specs.Entries.{IsRowOf}
@@ -12,7 +12,7 @@ use Rattle.jr_table.specs.Found.{Found, one}
 use Rattle.jr_table.specs.Scope.{Scope}
 use Rattle.jr_table.specs.Lookup.{FindsTypeNamed, FindsTypeOf}
 use Rattle.jr_table.specs.LookupLaws.{HasOne, EachHasOne}
-use Rattle.jr_table.specs.Context.{Context, IsSuperclass, scope_of, WritesType, NamesClass, LocalType, known, written, IsLocalType}
+use Rattle.jr_table.specs.Context.{IsSuperclass, WritesType, NamesClass, LocalType, known, written, IsLocalType}
 use Rattle.jr_table.specs.Binding.{FindsIn}
 use Rattle.jr_table.specs.HeadRules.{TopFinds}
 use Rattle.jr_images.specs.Words.{InFront, class_name, value_of, neither, FindsBehind}

@@ -3,7 +3,7 @@ use Rattle.std.proofs.Common.{◌≡◌, ℕ, List, Option, Some, None, false, s
 use Rattle.jr_text.specs.declared.spans.Span.{Span}
 use Rattle.jr_ast.specs.Tree as tree
 use Rattle.jr_table.specs.Keys.{ClassKey, Ty}
-use Rattle.jr_table.specs.Decls.{head, LocalKey, Decl, class_decl, field_decl, method_decl, constructor_decl, local_decl}
+use Rattle.jr_table.specs.Decls.{head, LocalKey, class_decl, field_decl, method_decl, constructor_decl, local_decl}
 use Rattle.jr_table.specs.Rows.{Row}
 use Rattle.jr_table.specs.Found.{Found, one, nothing, many, not_accessible, from_static}
 use Rattle.jr_table.specs.Prelude.{top_key}
@@ -13,7 +13,7 @@ use Rattle.jr_table.specs.Binding.{Role, value, left}
 use Rattle.jr_table.specs.Binding as role
 use Rattle.jr_table.specs.HeadRules.{plain}
 use Rattle.jr_rewrite.specs.Respellings.{Choice}
-use Rattle.jr_images.specs.Regions.{Images, Seen, Receiver, Region}
+use Rattle.jr_images.specs.Regions.{Images, Receiver, Region}
 use Rattle.jr_images.specs.Words.{InFront, class_name, value_of, neither, IsOfClass, Stands, FindsBetween, FirstWord, NextWord, AreWords}
 use Rattle.jr_images.specs.Spelling.{ClassChoice, FieldChoice, MemberClassChoice, CallChoice, ExpChoice, CreationChoice, SuperCtorChoice, TypeChoice, QualifierChoice, ParentChoice, ParentQualifierChoice}
 use Rattle.jr_program_laws.specs.FileParts.{begins}

@@ -16,7 +16,7 @@ use Rattle.jr_table.specs.DeclaredItems.{DeclaredItem, class_key}
 use Rattle.jr_table.specs.Errors.{Part, member_part, Declares, InClass, InMembers, InInner, InClasses}
 use Rattle.jr_members.proofs.Anywhere.{IsAt}
 use Rattle.jr_rewrite.specs.Respellings.{Choice}
-use Rattle.jr_rewrite.specs.Rewritten.{Rewritten, within, joined, word_out}
+use Rattle.jr_rewrite.specs.Rewritten.{Rewritten, within, joined}
 use Rattle.jr_rewrite.specs.Spots.{Spotted}
 use Rattle.jr_rewrite.specs.Rewrites.{Choosing, declared_by, with_losses, RewritesParams, RewritesResult, RewritesParent, RewritesHead, TransformsSuper, TransformsMember, TransformsByKey, TransformsClass, TransformsMembers, TransformsOne, TransformsClasses, TransformsUnit}
 use Rattle.jr_plan.specs.Transforms.{TransformsFiles}

@@ -10,7 +10,6 @@ use Rattle.jr_table.specs.BindingLaws.{IsBound}
 use Rattle.jr_table.specs.Context.{Context}
 use Rattle.jr_table.specs.Binding.{Role}
 use Rattle.jr_table.specs.HeadRules.{with_parameters}
-use Rattle.jr_rewrite.specs.Respellings.{Choice}
 use Rattle.jr_images.specs.Regions.{Region}
 use Rattle.jr_images.specs.Spelling.{renamed, ExpChoice, SuperCtorChoice, choosing}
 use Rattle.jr_bind.specs.SuperPlaces.{writes_super}

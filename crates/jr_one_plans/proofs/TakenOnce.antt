@@ -17,7 +17,7 @@ use Rattle.jr_spell.specs.Spellings.{forms}
 use Rattle.jr_spell.specs.Taken.{IsTaken}
 use Rattle.jr_rewrite.specs.Respellings.{Choice, loses}
 use Rattle.jr_images.specs.Regions.{Region}
-use Rattle.jr_images.specs.Spelling.{renamed, spelled, OfImage, FindsOn, TakenChoice, LeftChoice}
+use Rattle.jr_images.specs.Spelling.{spelled, OfImage, FindsOn, TakenChoice, LeftChoice}
 use Rattle.jr_program_laws.specs.FileParts.{begins}
 
 pub taken_once : (rows : List Row) (s : Scope) (r : Reference) (d : Decl) → HasOne (IsTaken rows s r d)

@@ -5,13 +5,10 @@ use Rattle.jr_ast.specs.Tree as tree
 use Rattle.jr_table.specs.Keys.{ClassKey}
 use Rattle.jr_table.specs.Decls.{head, class_decl}
 use Rattle.jr_table.specs.Rows.{Row}
-use Rattle.jr_table.specs.Conditions.{AreRows}
 use Rattle.jr_table.specs.Found.{one}
-use Rattle.jr_table.specs.Scope.{Scope}
 use Rattle.jr_table.specs.Prelude.{top_key}
 use Rattle.jr_table.specs.Lookup.{FindsTypeNamed}
 use Rattle.jr_table.specs.LookupLaws.{HasOne, EachHasOne}
-use Rattle.jr_table.specs.BindingLaws.{IsBound}
 use Rattle.jr_table.specs.Context.{Context, scope_of}
 use Rattle.jr_table.specs.Binding.{word_at}
 use Rattle.jr_table.specs.HeadRules.{plain, TopFinds}
