@@ -9,3 +9,7 @@ pub mod InMember
 pub mod BodiesOnce
 pub mod SameSites
 pub mod CrossedOnce
+pub mod KeptClasses
+pub mod ExtractFound
+pub mod ExtractMade
+pub mod ExtractPlan

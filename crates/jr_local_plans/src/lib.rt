@@ -9,4 +9,4 @@
 
 mod laws;
 
-pub use laws::one_is_selected;
+pub use laws::{extract_is_one, one_is_selected};

@@ -1,5 +1,5 @@
 -- Regions that make the same of a program: what is chosen by the one is chosen by the other.
-use Rattle.std.proofs.Common.{◌≡◌, ℕ, List, Option, Some, None, false, sym, subst, inl, inr}
+use Rattle.std.proofs.Common.{◌≡◌, ℕ, List, Option, Some, None, false, refl, sym, subst, inl, inr}
 use Rattle.jr_text.specs.declared.spans.Span.{Span}
 use Rattle.jr_ast.specs.Tree as tree
 use Rattle.jr_table.specs.Keys.{ClassKey, Ty}
@@ -38,6 +38,13 @@ pub record AreLike {A : Type 0} (R Q : Region A) : Type 0 where
   pub made : made_of R ≡ made_of Q
   pub there : (c : Context) (k : LocalKey) (b : ClassKey) → R.seen.HasClass c k b → Q.seen.HasClass c k b
   pub back : (c : Context) (k : LocalKey) (b : ClassKey) → Q.seen.HasClass c k b → R.seen.HasClass c k b
+
+pub like_itself : {A : Type 0} (R : Region A) → AreLike R R
+like_itself R = record { made = refl; there = λ c k b h. h; back = λ c k b h. h }
+
+-- regions that are the same of the same
+pub like_along : {A W : Type 0} (R : W → Region A) {w v : W} → w ≡ v → AreLike (R w) (R v)
+like_along R {w} {v} e = subst (λ z. AreLike (R w) (R z)) e (like_itself (R w))
 
 -- ---- where locals are of the same classes
 
