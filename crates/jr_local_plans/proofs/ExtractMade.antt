@@ -199,10 +199,10 @@ module _ (laws : Laws) (p : Program Span) (s : MemberKey → ℕ) (bs : List Bou
       one_rest = list_one itself Fine (chosen_by p.super_at (with_at w)) (chosen_by s (with_at w)) nowhere nowhere (agrees (with_at w) with_seen) tt (n + locals_in st) (after n c st) base ss x.rest y.rest x.rest_is
           (subst (λ (z : Where). TransformsList itself (chosen_by s (with_at z)) nowhere (n + locals_in st) (after n c st) base ss y.rest) (sym same) y.rest_is)
 
-      here : Parts
+      abbrev here : Parts
       here = record { text = f.text; mark = exp_mark w.place.value; type = f.type; piece = x.piece; gap = x.gap; first = x.first; rest = x.rest }
 
-      there : Parts
+      abbrev there : Parts
       there = record { text = g.text; mark = exp_mark g.selected.value; type = g.type; piece = y.piece; gap = y.gap; first = y.first; rest = y.rest }
 
       one_list : o ≡ v

@@ -1,5 +1,5 @@
 -- A local is of one class, seen from a place where a local is made or goes.
-use Rattle.std.proofs.Common.{◌≡◌, ◌⊎◌, inl, inr, ℕ, ◌<◌, Bool, true, false, List, Some, None, not, refl, sym, ap, subst, ◌∙◌, arith}
+use Rattle.std.proofs.Common.{◌≡◌, ◌⊎◌, inl, inr, ℕ, ◌<◌, Bool, true, false, List, Some, None, not, if◌then◌else◌, refl, sym, ap, subst, ◌∙◌, arith}
 use Rattle.std.specs.Prelude.{◌&&◌, Option, nat_lt, slice_get}
 use Rattle.std.proofs.lemmas.Bool.{cases_order, both_ways, le-ltb, ltb-false}
 use Rattle.std.proofs.lemmas.Option.{same_Some}
