@@ -1,8 +1,7 @@
 -- In two programs of the same files: a body of the one is a body of the other, but for what binding
 -- knows of it, and this answers alike.
 use Rattle.std.proofs.Common.{◌≡◌, ℕ, zero, suc, List, [], ◌∷◌, Some, refl, sym, ap, ◌∙◌, subst}
-use Rattle.std.specs.Prelude.{slice_get, Contains}
-use Rattle.std.proofs.lemmas.Option.{same_Some}
+use Rattle.std.specs.Prelude.{slice_get}
 use Rattle.jr_text.specs.declared.spans.Span.{Span}
 use Rattle.jr_lex.specs.Places.{ItemsPlaced}
 use Rattle.jr_ast.specs.Tree as tree
@@ -26,7 +25,7 @@ use Rattle.jr_one_plans.specs.OneAnswer.{AnswerAlike}
 use Rattle.jr_one_plans.proofs.Beside.{beside, IsWhole, one_beside}
 use Rattle.jr_local_plans.proofs.BodyLists.{body_nested}
 use Rattle.jr_local_plans.proofs.OneSelected.{list_ends}
-use Rattle.jr_local_plans.proofs.Frames.{Frame, frame_of, with_bound, Placed, placed, one_frame, bound_again, has_bound, has_key}
+use Rattle.jr_local_plans.proofs.Frames.{Frame, frame_of, with_bound, Placed, placed, one_frame, bound_again, has_key}
 use Rattle.jr_local_plans.proofs.OneMember.{HoldsByte}
 use Rattle.jr_local_plans.proofs.InMember.{begins_within, member_once}
 

@@ -1,11 +1,9 @@
 -- What extract local finds in two programs of the same files is one, and it is refused alike.
 use Rattle.std.proofs.Common.{◌≡◌, inl, inr, ℕ, List, ◌++◌, Option, Some, None, sym, ap, ◌∙◌, subst}
-use Rattle.std.specs.Prelude.{slice_get}
 use Rattle.std.proofs.lemmas.Option.{same_Some}
 use Rattle.jr_text.specs.declared.spans.Span.{Span}
 use Rattle.jr_ast.specs.Tree as tree
 use Rattle.jr_ast.specs.StatementTree as statement
-use Rattle.jr_ast.specs.Marks.{exp_mark}
 use Rattle.jr_table.specs.Keys.{Ty}
 use Rattle.jr_table.specs.Decls.{MemberKey, LocalKey, local_decl}
 use Rattle.jr_table.specs.Scope.{ScopeLocal}

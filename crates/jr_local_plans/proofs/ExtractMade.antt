@@ -1,6 +1,6 @@
 -- What extract local makes of two programs of the same files is one.
-use Rattle.std.proofs.Common.{◌≡◌, inl, inr, ℕ, ◌+◌, List, [], ◌∷◌, ◌++◌, Bool, true, false, Option, Some, None, map, refl, sym, ap, ◌∙◌, subst}
-use Rattle.std.specs.Prelude.{nat_eq, slice_get}
+use Rattle.std.proofs.Common.{◌≡◌, ℕ, ◌+◌, List, [], ◌∷◌, ◌++◌, Bool, true, false, None, map, sym, ap, ◌∙◌, subst}
+use Rattle.std.specs.Prelude.{nat_eq}
 use Rattle.std.proofs.lemmas.Option.{same_Some}
 use Rattle.jr_text.specs.declared.spans.Span.{Span}
 use Rattle.jr_lex.specs.declared.items.Item.{Item}
@@ -16,7 +16,6 @@ use Rattle.jr_table.specs.Keys.{Ty, int, boolean, void, null, class}
 use Rattle.jr_table.specs.Decls.{MemberKey, LocalKey, class_decl}
 use Rattle.jr_table.specs.Rows.{Row}
 use Rattle.jr_table.specs.Lookup.{FindsTypeNamed}
-use Rattle.jr_table.specs.LookupLaws.{HasOne}
 use Rattle.jr_table.specs.Errors.{Part}
 use Rattle.jr_table.specs.Binding.{value}
 use Rattle.jr_table.specs.Context.{Context, local_key, locals_in, after}
@@ -26,16 +25,16 @@ use Rattle.jr_bind.specs.Programs.{Program}
 use Rattle.jr_bind.specs.SuperPlaces.{writes_super}
 use Rattle.jr_rewrite.specs.Respellings.{Choice, Loss}
 use Rattle.jr_rewrite.specs.Rewritten.{Rewritten, simple_type_out}
-use Rattle.jr_rewrite.specs.Spots.{Asks, level, Spots, Spotted, nowhere, spotted}
+use Rattle.jr_rewrite.specs.Spots.{Asks, level, Spots, nowhere, spotted}
 use Rattle.jr_rewrite.specs.Rewrites.{Choosing, TransformsExp, TransformsStmt, TransformsList}
 use Rattle.jr_rewrite.specs.Woven.{with_changes}
 use Rattle.jr_images.specs.Regions.{Region}
 use Rattle.jr_images.specs.Spelling.{choosing, reference}
-use Rattle.jr_plan.specs.Transforms.{Lost, made as is_made}
+use Rattle.jr_plan.specs.Transforms.{made as is_made}
 use Rattle.jr_local.specs.Bodies.{begins}
 use Rattle.jr_local.specs.Scopes.{around_made, with_made, in_made}
 use Rattle.jr_local.specs.Texts.{HasText}
-use Rattle.jr_local.specs.Extracted.{WritesType, word_of, declaration, put_declaration, named, Puts, IsHeld, Extracts, list_spot, spots_if, spots_of, Found, lost_type, extract_local}
+use Rattle.jr_local.specs.Extracted.{WritesType, word_of, declaration, put_declaration, named, Puts, IsHeld, Extracts, list_spot, spots_if, spots_of, Found, extract_local}
 use Rattle.jr_one_plans.proofs.Beside.{beside, IsWhole}
 use Rattle.jr_one_plans.proofs.WordsOnce.{SeenOnce}
 use Rattle.jr_one_plans.proofs.TakenOnce.{choice_once}

@@ -1,12 +1,12 @@
 -- An expression of a body begins within its member, so two members of a file hold no one span.
-use Rattle.std.proofs.Common.{◌≡◌, ℕ, ◌<◌, ◌≤◌, [], ◌∷◌, ◌++◌, Some, refl, sym, ap, ◌∙◌, subst, inl, arith}
+use Rattle.std.proofs.Common.{◌≡◌, ℕ, ◌<◌, ◌≤◌, [], ◌++◌, Some, refl, sym, ap, ◌∙◌, subst, inl, arith}
 use Rattle.std.specs.Prelude.{slice_get}
 use Rattle.std.proofs.lemmas.Option.{same_Some}
 use Rattle.jr_text.specs.declared.spans.Span.{Span}
 use Rattle.jr_lex.specs.Places.{ItemsPlaced}
 use Rattle.jr_ast.specs.Tree as tree
 use Rattle.jr_ast.specs.MemberTree as syntax
-use Rattle.jr_ast.specs.Marks.{exp_mark, member_mark}
+use Rattle.jr_ast.specs.Marks.{exp_mark}
 use Rattle.jr_grammar.specs.Tokens.{placed_of}
 use Rattle.jr_grammar.specs.Layout.{itself}
 use Rattle.jr_grammar.specs.Stands.{Tokens, first_from, last_to, span_of, Stands, StandInOrder}
@@ -24,7 +24,7 @@ use Rattle.jr_bind.specs.Programs.{Program, units_of}
 use Rattle.jr_program_laws.proofs.TokenOrder.{StartsIn, Rising, in_front as starts_in_front, in_back, from_first, to_last, piece_rises, whole_piece}
 use Rattle.jr_program_laws.proofs.ItemTokens.{tokens_rise}
 use Rattle.jr_program_laws.proofs.PartTokens.{StandsPart, unit_parts}
-use Rattle.jr_program_laws.proofs.FileOrder.{member_mark_is, unit_order}
+use Rattle.jr_program_laws.proofs.FileOrder.{unit_order}
 use Rattle.jr_program_laws.proofs.MeansOnce.{declares_once}
 use Rattle.jr_rewrite.proofs.ExpressionSteps.{exp_some}
 use Rattle.jr_pieces.specs.Ways.{ListWay}

@@ -3,9 +3,8 @@ use Rattle.std.proofs.Common.{◌≡◌, ◌⊎◌, inl, inr, ℕ, ◌<◌, Bool
 use Rattle.std.specs.Prelude.{◌&&◌, Option, nat_lt, slice_get}
 use Rattle.std.proofs.lemmas.Bool.{cases_order, both_ways, le-ltb, ltb-false}
 use Rattle.std.proofs.lemmas.Option.{same_Some}
-use Rattle.jr_text.specs.declared.spans.Span.{Span}
 use Rattle.jr_table.specs.Keys.{ClassKey, Ty, class}
-use Rattle.jr_table.specs.Decls.{MemberKey, LocalKey}
+use Rattle.jr_table.specs.Decls.{LocalKey}
 use Rattle.jr_table.specs.SameDecls.{same_member, member_decides}
 use Rattle.jr_table.specs.Rows.{Row}
 use Rattle.jr_table.specs.Conditions.{AreRows}

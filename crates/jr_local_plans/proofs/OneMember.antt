@@ -10,7 +10,7 @@ use Rattle.jr_table.specs.LookupLaws.{HasOne}
 use Rattle.jr_table.specs.DeclaredItems.{DeclaredItem, class_key}
 use Rattle.jr_table.specs.Errors.{Part, class_part, member_part, Declares, InClass, InMembers, InInner, InClasses}
 use Rattle.jr_program_laws.specs.FileParts.{begins}
-use Rattle.jr_program_laws.specs.PlaceLaws.{LiesWithin, StandsBetween, ClassInOrder, MemberInOrder, MembersInOrder, ClassesInOrder}
+use Rattle.jr_program_laws.specs.PlaceLaws.{LiesWithin, ClassInOrder, MemberInOrder, MembersInOrder, ClassesInOrder}
 
 -- a method or a constructor, in whose span the byte lies
 abbrev pub HoldsByte : (at : ℕ) → Part Span → Type 0

@@ -1,29 +1,28 @@
 -- What sites ask of a body's nodes is the same of two bodies that differ in what binding knows, where
 -- this answers alike.
-use Rattle.std.proofs.Common.{◌≡◌, ℕ, ◌-◌, ◌+◌, ◌++◌, Bool, true, List, [], ◌∷◌, Option, Some, None, refl, sym, ap, ◌∙◌, subst, inl, inr}
-use Rattle.std.specs.Prelude.{◌⊎◌, ◌↔◌, IsTrue, map, slice_get}
+use Rattle.std.proofs.Common.{◌≡◌, ℕ, ◌-◌, ◌+◌, ◌++◌, Bool, List, [], ◌∷◌, Option, Some, None, refl, sym, ap, ◌∙◌, subst}
+use Rattle.std.specs.Prelude.{map, slice_get}
 use Rattle.jr_text.specs.declared.spans.Span.{Span}
 use Rattle.jr_ast.specs.Tree as tree
 use Rattle.jr_sync.specs.declared.sites.DepKind.{DepKind}
 use Rattle.jr_sync.specs.Crossing.{IsCrossing}
-use Rattle.jr_table.specs.Keys.{Ty, FieldKey}
+use Rattle.jr_table.specs.Keys.{FieldKey}
 use Rattle.jr_table.specs.Decls.{MemberKey, LocalKey}
 use Rattle.jr_names.specs.Sites.{SiteAt}
-use Rattle.jr_bind.specs.Bounds.{Bound, decl_in}
+use Rattle.jr_bind.specs.Bounds.{Bound}
 use Rattle.jr_bind.specs.Programs.{Program}
-use Rattle.jr_expr_types.specs.Slots.{find_type}
-use Rattle.jr_expr_sites.specs.Meanings.{Meaning, meaning_of, variable_of, is_class}
+use Rattle.jr_expr_sites.specs.Meanings.{meaning_of, variable_of, is_class}
 use Rattle.jr_expr_sites.specs.KnownFacts.{is_checked}
 use Rattle.jr_code.specs.RunKeys.{RunKeys}
-use Rattle.jr_cover.specs.Facts.{Facts, Variable}
+use Rattle.jr_cover.specs.Facts.{Facts}
 use Rattle.jr_cover.specs.Sites.{Known}
 use Rattle.jr_cover.specs.NeverNullTrees.{NeverNull}
 use Rattle.jr_cover.specs.Plain.{IsPlain}
 use Rattle.jr_cover.specs.Sites.{exp_way}
 use Rattle.jr_cover.specs.Ways.{sites_of}
 use Rattle.jr_local.specs.Bodies.{Body}
-use Rattle.jr_local.specs.BodyFacts.{meaning_at, variable_at, type_at, may_fail, path_to, facts, Declares, Assigns, IsNeverNull, TellsNeverNull, known}
-use Rattle.jr_local.specs.Crossing.{Piece, DoesReadAlone, action, site_at, Crossed}
+use Rattle.jr_local.specs.BodyFacts.{meaning_at, variable_at, may_fail, path_to, facts, Declares, Assigns, IsNeverNull, TellsNeverNull, known}
+use Rattle.jr_local.specs.Crossing.{Piece, DoesReadAlone, action, Crossed}
 use Rattle.jr_one_plans.specs.OneAnswer.{AnswerAlike}
 use Rattle.jr_one_plans.proofs.Beside.{beside}
 use Rattle.jr_local_plans.proofs.Frames.{frame_of, with_bound}
