@@ -29,9 +29,9 @@ use Rattle.jr_local_texts.proofs.StandingParts.{Among, among_first, among_rest}
 use Rattle.jr_local_texts.proofs.StandingBodies.{no_body, same_body, contains_at, file_of_unit}
 
 -- the list stands among the tokens, and not where they begin
-record Inner (b : statement.Stmts Span) (ps : Tokens) : Type 0 where
-  among : Among (Stands (stmts_layout b)) ps
-  filled : Filled among.front
+pub record Inner (b : statement.Stmts Span) (ps : Tokens) : Type 0 where
+  pub among : Among (Stands (stmts_layout b)) ps
+  pub filled : Filled among.front
 
 deeper : {b : statement.Stmts Span} {P Q : Tokens → Type 0} (ps : Tokens) → InOrder P Q ps → ((qs : Tokens) → Q qs → Inner b qs) → Inner b ps
 deeper ps h go =
@@ -85,7 +85,7 @@ pub record NestedBody (b : statement.Stmts Span) : Type 0 where
   pub to : ℕ
   pub nested : ListNested itself (record { from = 0; to = to }) 1 b
 
-inner_nested : StandingListsAreNested Span → (b : statement.Stmts Span) (ps : Tokens) → Rising ps → Inner b ps → NestedBody b
+pub inner_nested : StandingListsAreNested Span → (b : statement.Stmts Span) (ps : Tokens) → Rising ps → Inner b ps → NestedBody b
 inner_nested law b ps r i =
     let whole : Tokens = i.among.part in
     let there = subst (λ l. Stands l whole) (sym (spans_from-span 0 (stmts_layout b))) i.among.stands in

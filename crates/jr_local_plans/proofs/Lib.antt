@@ -13,3 +13,7 @@ pub mod KeptClasses
 pub mod ExtractFound
 pub mod ExtractMade
 pub mod ExtractPlan
+pub mod NamedOnce
+pub mod DeclaredOnce
+pub mod NamingsAt
+pub mod InlineFound

@@ -63,7 +63,7 @@ module _ (p : Program Span) (s : MemberKey → ℕ) (bs : List Bound) (a : Body)
 
   -- ---- never null
 
-  declares_there : (n : ℕ) (init : tree.Exp Span) → Declares p a n init → Declares q b n init
+  pub declares_there : (n : ℕ) (init : tree.Exp Span) → Declares p a n init → Declares q b n init
   declares_there n init d = record { way = d.way; mark = d.mark; is_final = d.is_final; type = d.type; word = d.word; is = d.is; number = d.number }
 
   declares_here : (n : ℕ) (init : tree.Exp Span) → Declares q b n init → Declares p a n init
