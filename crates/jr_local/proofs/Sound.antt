@@ -234,4 +234,4 @@ regions_are_sound rows are dots k name type = record {
     copied_locals read ls = kept_locals to_front ls ++ later_there rows k type read
 
     copied_class : Context → LocalKey → ClassKey → Type 0
-    copied_class read l b = (without_seen rows k type).HasClass read l b
+    copied_class read l b = (is_from k.member k.number l ≡ true) × (without_seen rows k type).HasClass read l b

@@ -10,6 +10,7 @@ use Rattle.std.specs.Prelude.{
   ◌-◌,
   nat_lt,
   Bool,
+  true,
   false,
   not,
   ◌&&◌,
@@ -196,8 +197,8 @@ module _ (rows : List Row) (t : LocalKey) (type : Ty) where
       (without_seen.scope c).locals
 
   -- What the initializer names, seen from a read of t, where the copy stands. In the initializer
-  -- none is in scope but those in front of t, and t.
+  -- none is in scope but those in front of t, and t; those behind t are as they are at the read.
   abbrev pub in_copy : (read : Context) → Region Span
   in_copy read = plain_region (seen_by rows (earlier rows t [] type)
       (λ ls. kept_locals (earlier rows t [] type) ls ++ later_there read)
-      (λ k b. without_seen.HasClass read k b))
+      (λ k b. (is_from t.member t.number k ≡ true) × without_seen.HasClass read k b))

@@ -1,5 +1,5 @@
 -- A local is of one class, seen from a place where a local is made or goes.
-use Rattle.std.proofs.Common.{◌≡◌, ◌⊎◌, inl, inr, ℕ, ◌<◌, Bool, true, false, List, Some, None, not, if◌then◌else◌, refl, sym, ap, subst, ◌∙◌, arith}
+use Rattle.std.proofs.Common.{◌≡◌, ◌⊎◌, inl, inr, ℕ, ◌<◌, Bool, true, false, List, [], Some, None, not, if◌then◌else◌, refl, sym, ap, subst, ◌∙◌, arith}
 use Rattle.std.specs.Prelude.{◌&&◌, Option, nat_lt, slice_get}
 use Rattle.std.proofs.lemmas.Bool.{cases_order, both_ways, le-ltb, ltb-false}
 use Rattle.std.proofs.lemmas.Option.{same_Some}
@@ -10,7 +10,7 @@ use Rattle.jr_table.specs.Rows.{Row}
 use Rattle.jr_table.specs.Conditions.{AreRows}
 use Rattle.jr_table.specs.LookupLaws.{HasOne, EachHasOne}
 use Rattle.jr_table.specs.Context.{Context, Local, IsLocalType, scope_of}
-use Rattle.jr_local.specs.Scopes.{is_from, one_more, made_room, IsLastTo, HasKeptClass, room, earlier, around_made, with_made, in_made, IsOfMadeClass}
+use Rattle.jr_local.specs.Scopes.{is_from, one_more, made_room, IsLastTo, HasKeptClass, room, earlier, closed_up, around_made, with_made, in_made, IsOfMadeClass, without, in_copy}
 use Rattle.jr_one_plans.proofs.FoundOnce.{value_key, held_once}
 use Rattle.jr_one_plans.proofs.WordsOnce.{SeenOnce}
 
@@ -95,4 +95,21 @@ module _ (rows : List Row) (fit : AreRows rows) (each : EachHasOne rows) (k : Lo
     each = each;
     classes = λ c j. either_once rows each (earlier rows k name type) (IsOfMadeClass rows k name type) c j (made_once j)
         (λ l b e x. free_earlier rows k name type k (from_itself k) l.key (subst (λ (i : LocalKey). earlier rows k name type l.key ≡ Some i) x.0 e));
+  }
+
+-- ---- the regions of inline local
+
+module _ (rows : List Row) (fit : AreRows rows) (each : EachHasOne rows) (k : LocalKey) (type : Ty) where
+  left_once : (c : Context) (j : LocalKey) → HasOne ((without rows k type).seen.HasClass c j)
+  left_once c j = either_once rows each (closed_up k) (λ i b. ⊥) c j (λ a b x y. absurd x) (λ l b e x. x)
+
+  pub without_once : SeenOnce (without rows k type).seen
+  without_once = record { are = fit; each = each; classes = left_once }
+
+  pub copy_once : (read : Context) → SeenOnce (in_copy rows k type read).seen
+  copy_once read = record {
+    are = fit;
+    each = each;
+    classes = λ c j. either_once rows each (earlier rows k [] type) (λ i b. (is_from k.member k.number i ≡ true) × (without rows k type).seen.HasClass read i b) c j (λ a b x y. left_once read j a b x.1 y.1)
+        (λ l b e x. free_earlier rows k [] type j x.0 l.key e);
   }
