@@ -1,8 +1,10 @@
 //! What both steps find is one, and what they make of a program.
-ghost use Rattle.jr_local_plans.specs.OnePlan.{ExtractIsOne};
+ghost use Rattle.jr_local_plans.specs.OnePlan.{ExtractIsOne, InlineIsOne};
 ghost use Rattle.jr_local_plans.specs.OneSelected.{OneIsSelected};
 
+use jr_cursor::one_is_target;
 use jr_lex::items_are_placed;
+use jr_local_search::ways_are_declared;
 use jr_members::members_are_written;
 use jr_pieces::standing_lists_are_nested;
 use jr_table::{lookups_are_exact, types_are_exact};
@@ -30,4 +32,19 @@ pub fn extract_is_one()
     one_way_has_a_span::<Span>();
     lookups_are_exact();
     types_are_exact::<Span>();
+}
+
+/// In the files of a program a step that inlines a local is planned in one way, or refused for one
+/// reason, and not both.
+pub fn inline_is_one()
+    ensures { InlineIsOne }
+{
+    items_are_placed();
+    members_are_written::<Span>();
+    standing_lists_are_nested::<Span>();
+    one_way_has_a_span::<Span>();
+    lookups_are_exact();
+    types_are_exact::<Span>();
+    ways_are_declared();
+    one_is_target();
 }

@@ -1,10 +1,8 @@
-use Rattle.jr_local_plans.proofs.BodiesOnce.{Laws}
 use Rattle.jr_local_plans.proofs.ExtractPlan as plan
-use Rattle.jr_local_plans.proofs.InlineFound as found
 use Rattle.jr_local_plans.proofs.laws.extract_is_one.Goals as goal
 
 pub returns : goal.returns
-returns c = let x1 = found.found_here in plan.extract_is_one (record {
+returns c = plan.extract_is_one (record {
   items = c.items_are_placed.ensures.items;
   written = c.members_are_written.ensures;
   nested = c.standing_lists_are_nested.ensures;
