@@ -1,5 +1,5 @@
 -- Constructors: the code of a rewritten one is the image of the code of the old one.
-use Rattle.std.proofs.Common.{◌≡◌, ℕ, ◌+◌, List, [], ◌∷◌, ◌++◌, Option, Some, None, true, false, sym, ap, subst, ◌∙◌, inl, inr, length, arith}
+use Rattle.std.proofs.Common.{◌≡◌, ◌≤◌, ℕ, ◌+◌, List, [], ◌∷◌, ◌++◌, Option, Some, None, true, false, sym, ap, subst, ◌∙◌, inl, inr, length, arith}
 use Rattle.jr_text.specs.declared.spans.Span.{Span}
 use Rattle.jr_ast.specs.Tree as tree
 use Rattle.jr_ast.specs.StatementTree as statement
@@ -93,7 +93,7 @@ module _ {A : Type 0} (tells : A → ℕ → Span) (last : A → ℕ → ℕ) (r
       taken.place f taken.stands (to_scope tells rows R c d (worlds c d stand) (reference ref.AsAsked [] None (R.types_now c args ts)) (constructor_decl (ctor_in R k)) f taken.binds) in
       let p = super_once c d stand es (constructor_decl n) (constructor_decl (ctor_in R k)) new there in
       let ctor : n ≡ ctor_in R k = cc in
-      ctor ∙ ap (ctor_to g) (same k ts finds)
+      ctor ∙ ap (ctor_in R) (same k ts finds)
   super_found c d stand args es args_to h (k, ts, finds, types, inr (none_binds, (f, found, is))) none q n old new same = absurd (lost_some _ (sym (ap losses_of is) ∙ none))
 
   pub parent_by : (q n : CtorKey) (j : ℕ) → IsRowOf rows (constructor_decl q) j → n ≡ ctor_in R q → (p o : At_of RunKeys) (es fs : core.Exps RunKeys) → X.exps es fs → (s t : StatementCode)

@@ -1,16 +1,21 @@
 -- An image with sets of agreeing locals holds of a node where it holds of its parts.
-use Rattle.std.proofs.Common.{◌≡◌, ℕ, IsTrue, refl, sym, subst}
+use Rattle.std.proofs.Common.{◌≡◌, ◌<◌, ◌≤◌, ℕ, List, Option, refl, sym, subst, arith}
+use Rattle.jr_runs.specs.Keys.{At}
 use Rattle.jr_runs.specs.Core as core
 use Rattle.jr_runs.specs.Rows as core_rows
 use Rattle.jr_runs.specs.KeyMaps.{KeyMap}
 use Rattle.jr_runs.specs.Sets.{NumberSet, everything, with_one, with_all, Within}
-use Rattle.jr_runs.specs.Standing.{Self, itself, Standing, In}
-use Rattle.jr_runs.specs.Images.{AllSpots, SelfTo, Writable, behind_write, to_literal, to_this, to_read, to_assign, to_compound, to_bump, to_signed, to_binary, to_both, to_either, to_cast, to_static_call, to_instance_call, to_super_call, to_create, to_super_constructor, to_local, to_static_field, to_field_of, to_end, to_more, to_declare, to_eval, to_branch, to_loop, to_return, to_return_nothing, to_block, to_sync, to_empty, to_no_more, to_list}
+use Rattle.jr_runs.specs.Standing.{Self, itself, Standing, In, whole}
+use Rattle.jr_runs.specs.Images.{Among, Spots, AllSpots, lists_alone, CodeTo, MethodTo, SelfTo, Writable, behind_write, to_literal, to_this, to_read, to_assign, to_compound, to_bump, to_signed, to_binary, to_both, to_either, to_cast, to_static_call, to_instance_call, to_super_call, to_create, to_super_constructor, to_local, to_static_field, to_field_of, to_end, to_more, to_declare, to_eval, to_branch, to_loop, to_return, to_return_nothing, to_block, to_sync, to_empty, to_no_more, to_list}
+use Rattle.jr_runs.specs.TypedImages.{IsAbove, member, TypedCodeTo}
 use Rattle.jr_runs.proofs.Locals.{within_itself, within_one, within_all}
+use Rattle.jr_table.specs.Keys.{ClassKey}
 use Rattle.jr_code.specs.RunKeys.{RunKeys}
 use Rattle.jr_code.specs.Coded.{TargetCode}
+use Rattle.jr_code.specs.CodedMembers.{MemberCode}
 use Rattle.jr_image_code.specs.CodeRelations.{IsFreeTarget, AreExpsRelated, AreStmtsRelated}
 use Rattle.jr_image_code.specs.SetImages.{through}
+use Rattle.jr_image_code.specs.MemberCodes.{CodesTo, MethodsTo}
 
 -- what agreed agrees behind a write
 behind : (A : NumberSet) (t : TargetCode) → Within A (behind_write A t)
@@ -24,8 +29,8 @@ module _ (r : KeyMap RunKeys) (R : core_rows.Rows RunKeys) (Spot : AllSpots RunK
   writable (core.static_field p f) free = tt
   writable (core.field_of p e f) free = tt
 
-  this_is : s.code.self ≡ itself → (q : _) → SelfTo s.code.self (core.this {K = RunKeys} q)
-  this_is own q = subst (λ (z : Self). SelfTo z (core.this {K = RunKeys} q)) (sym own) (q, refl)
+  this_is : s.code.self ≡ itself → (q : At RunKeys) → SelfTo {K = RunKeys} s.code.self (core.this q)
+  this_is own q = subst (λ (z : Self). SelfTo {K = RunKeys} z (core.this q)) (sym own) (q, refl)
 
   pub exps_related : AreExpsRelated r R (through r R Spot s K)
   exps_related = record {
@@ -71,4 +76,45 @@ module _ (r : KeyMap RunKeys) (R : core_rows.Rows RunKeys) (Spot : AllSpots RunK
     of_empty = λ p q A w. (A, w, to_empty A p q);
     of_no_stmts = λ A w. (A, w, to_no_more A);
     of_more_stmts = λ t u x z h i A w. let a = h A w in let b = i a.0 a.1 in (b.0, b.1, to_list A a.0 b.0 t u x z a.2 b.2);
+  }
+
+-- ---- members
+
+-- the code of a whole member is an image as the laws on programs ask for
+module _ (r : KeyMap RunKeys) (R : core_rows.Rows RunKeys) (size : ℕ) (at : ℕ → ℕ) (injective : (i j : ℕ) → i < size → j < size → at i ≡ at j → i ≡ j) (K : NumberSet) where
+  pub code_to : (Spot : Spots RunKeys) (old new : MemberCode) → ((i : ℕ) → i < old.params → at i ≡ i) → CodesTo (through r R (lists_alone Spot) (whole size at) K) size old new → CodeTo r R Spot old new
+  code_to Spot old new params_stay h = let body = h.2 everything (λ i g. refl) in record {
+    size = size;
+    at = at;
+    injective = injective;
+    params = h.0;
+    params_below = h.1;
+    params_stay = params_stay;
+    behind = body.0;
+    body = body.2;
+  }
+
+  pub method_to : (Spot : Spots RunKeys) (old new : core.Method RunKeys) → ((i : ℕ) → i < size → at i ≡ i) → MethodsTo (through r R (lists_alone Spot) (whole size at) K) size old new → MethodTo r R Spot old new
+  method_to Spot (core.written x) (core.written z) stay h = code_to Spot x z (λ i few. stay i (below_size few h.1)) h
+    where
+      below_size : {i n : ℕ} → i < n → n ≤ size → i < size
+      below_size few fits = omega (arith, few, fits)
+  method_to Spot core.starts core.starts stay h = tt
+  method_to Spot (core.written x) core.starts stay h = absurd h
+  method_to Spot core.starts (core.written z) stay h = absurd h
+
+  -- in a program whose types are known, `this` has these classes
+  pub typed_code_to : (Spot : AllSpots RunKeys) (owner : Option ClassKey) (classes : List ClassKey) → ((c : ClassKey) → Among c classes → IsAbove R owner c) → (old new : MemberCode)
+      → ((i : ℕ) → i < old.params → at i ≡ i) → CodesTo (through r R Spot (member classes size at) K) size old new → TypedCodeTo r R Spot owner old new
+  typed_code_to Spot owner classes above old new params_stay h = let body = h.2 everything (λ i g. refl) in record {
+    size = size;
+    at = at;
+    injective = injective;
+    params = h.0;
+    params_below = h.1;
+    params_stay = params_stay;
+    classes = classes;
+    above = above;
+    behind = body.0;
+    body = body.2;
   }
