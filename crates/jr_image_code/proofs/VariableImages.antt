@@ -84,7 +84,7 @@ module _ {A : Type 0} (tells : A → ℕ → Span) (rows : List Row) (R : Region
   this_pair own x z a (p, b) = exps_by tells rows R c d w r D X by_images x (core.this None) z (core.this (Some p)) a b (by_images.exps.of_this own None (Some p))
 
   -- what is static has no receiver
-  static_alone : (New : Code → Type 0) (k : FieldKey) (q : Place) (u : TargetCode) → FieldCode (rows_in R) New (field_decl k) q u → (IsInstanceDecl (rows_in R) (field_decl k) → ⊥)
+  pub static_alone : (New : Code → Type 0) (k : FieldKey) (q : Place) (u : TargetCode) → FieldCode (rows_in R) New (field_decl k) q u → (IsInstanceDecl (rows_in R) (field_decl k) → ⊥)
       → FieldCode (rows_in R) (λ z. ⊥) (field_decl k) q u
   static_alone New k q u (inl h) never = inl h
   static_alone New k q u (inr (lacks, h)) never = absurd (never lacks)
@@ -133,6 +133,12 @@ module _ {A : Type 0} (tells : A → ℕ → Span) (rows : List Row) (R : Region
 
   -- ---- simple names
 
+  -- the old code of a field's simple name
+  pub old_name : (m : A) (v : tree.Word A) (k : FieldKey) → FindsVariable rows (scope_of c) v.text (one (field_decl k)) → (b : ℕ) (t : TargetCode) → NameTarget (λ m b. (tells m b).from) rows c b m v t
+      → FieldCode rows IsOwn (field_decl k) (place (λ m b. (tells m b).from) rows c (word_at (λ m b. (tells m b).from) m b v)) t
+  old_name m v k finds b t (x, found, code) = subst (λ (z : Decl). VariableCode rows z (place (λ m b. (tells m b).from) rows c (word_at (λ m b. (tells m b).from) m b v)) t)
+      (one_decl x (field_decl k) (w.one_old.variable (scope_of c) v.text (one x) (one (field_decl k)) found finds)) code
+
   module _ (m : A) (v : tree.Word A) (at : ℕ) (h : Choice) (none : losses_of h ≡ []) where
     abbrev NewName : Choice → tree.Exp A
     NewName x = variable_to m (front_of x) None (word_to x v)
@@ -172,16 +178,10 @@ module _ {A : Type 0} (tells : A → ℕ → Span) (rows : List Row) (R : Region
             (local_named k j (name_in R (local_decl k) v.text) image finds binds))
             taken.place f taken.stands (to_scope tells rows R c d w asked (local_decl j) f taken.binds))
 
-    -- the old code of a field's simple name
-    old_name : (k : FieldKey) → FindsVariable rows (scope_of c) v.text (one (field_decl k)) → (b : ℕ) (t : TargetCode) → NameTarget (λ m b. (tells m b).from) rows c b m v t
-        → FieldCode rows IsOwn (field_decl k) (place (λ m b. (tells m b).from) rows c (word_at (λ m b. (tells m b).from) m b v)) t
-    old_name k finds b t (x, found, code) = subst (λ (z : Decl). VariableCode rows z (place (λ m b. (tells m b).from) rows c (word_at (λ m b. (tells m b).from) m b v)) t)
-        (one_decl x (field_decl k) (w.one_old.variable (scope_of c) v.text (one x) (one (field_decl k)) found finds)) code
-
     pub own_field_goals : (IsOnThis rows c (tree.name m v) → X.own) → (k : FieldKey) → OwnFieldChoice (λ m b. (tells m b).from) rows R c at v.text k h → Goals (tree.name m v) (NewName h)
     unfolding TargetOf
     own_field_goals on_this k (finds, inl (f, taken, is)) = subst (λ (x : Choice). Goals (tree.name m v) (NewName x)) (sym is) (goals (tree.name m v) (NewName (spelled v.text (field_in R k).name (field_in R k).class f)) tt (own_shape (field_in R k) _ forms)
-        (λ b i t u old new. own_target k (λ has. on_this (k, finds, has)) _ t (old_name k finds b t old) i u _ forms (simple_field (λ m b. (tells m b).from) (rows_in R) w.images.are w.one_new d w.new w.rebind w.fronts m v.mark v.text (field_in R k) taken.place f taken.stands binds) new))
+        (λ b i t u old new. own_target k (λ has. on_this (k, finds, has)) _ t (old_name m v k finds b t old) i u _ forms (simple_field (λ m b. (tells m b).from) (rows_in R) w.images.are w.one_new d w.new w.rebind w.fronts m v.mark v.text (field_in R k) taken.place f taken.stands binds) new))
       where
         binds : Binds (rows_in R) (scope_of d) (reference ref.FieldSimple (field_in R k).name None []) (field_decl (field_in R k)) f
         binds = to_scope tells rows R c d w (reference ref.FieldSimple (field_in R k).name None []) (field_decl (field_in R k)) f taken.binds

@@ -1,6 +1,6 @@
 -- The code of what a rename rewrites is kept: a rename is the case of one region without spots, and code that is kept is a relation
 -- that holds of a node where it holds of its parts.
-use Rattle.std.proofs.Common.{◌≡◌, ◌<◌, ◌≤◌, ℕ, ◌+◌, List, [], ◌∷◌, Option, Some, refl, sym, ap, subst, ◌∙◌, length, arith}
+use Rattle.std.proofs.Common.{◌≡◌, ◌<◌, ◌≤◌, ℕ, ◌+◌, List, [], ◌∷◌, Option, Some, None, false, refl, sym, ap, subst, ◌∙◌, length, arith}
 use Rattle.jr_text.specs.declared.spans.Span.{Span}
 use Rattle.jr_ast.specs.Tree as tree
 use Rattle.jr_ast.specs.StatementTree as statement
@@ -18,11 +18,13 @@ use Rattle.jr_table.specs.Entries.{IsRowOf}
 use Rattle.jr_table.specs.Conditions.{AreRows}
 use Rattle.jr_table.specs.Keyed.{IsAssignable}
 use Rattle.jr_table.specs.DeclaredItems.{DeclaredItem}
+use Rattle.jr_table.specs.Errors.{InMembers}
 use Rattle.jr_table.specs.Context.{Context, Local, scope_of, after, locals_in, locals_in_else, locals_in_row}
 use Rattle.jr_table.specs.HeadRules.{plain}
 use Rattle.jr_table.specs.Binding.{HasType}
 use Rattle.jr_table.specs.BindingLaws.{IsBound}
 use Rattle.jr_spell.specs.Rebound.{AreFronts}
+use Rattle.jr_members.specs.WrittenMembers.{decl_of_member}
 use Rattle.jr_rewrite.specs.Rewritten.{Rewritten}
 use Rattle.jr_rewrite.specs.Spots.{nowhere}
 use Rattle.jr_rewrite.specs.Rewrites.{Choosing, RewritesStmt, RewritesElse, RewritesStmts, RewritesMember, RewritesMembers, TransformsStmt, TransformsElse, TransformsStmts}
@@ -51,7 +53,6 @@ use Rattle.jr_image_code.proofs.MemberImages as general
 use Rattle.jr_image_code.proofs.MemberImages.{Of}
 use Rattle.jr_image_code.proofs.ConstructorImages as constructors
 use Rattle.jr_image_code.proofs.InitImages as initializers
-use Rattle.jr_image_code.proofs.InitImages.{Written}
 use Rattle.jr_image_code.proofs.Renamed.{words_stay, no_spots}
 use Rattle.jr_kept_runs.specs.KeysTo.{keys_to}
 use Rattle.jr_kept_runs.specs.CastsAgree.{CastsAgree}
@@ -250,8 +251,7 @@ module _ {A : Type 0} (tells : A → ℕ → Span) (last : A → ℕ → ℕ) (r
 
     -- what the members declare has a row
     abbrev pub Rowed : (b : ℕ) → ClassKey → syntax.Members A → Type 0
-    Rowed b of ms = Written tells last rows (region_of rows g) super_at nowhere refl At (renamed_stand tells rows g super_at worlds) (renamed_begin tells rows g super_at worlds) region_worlds
-        keys R (Kept keys R 0) (goes 0) (kept_stmts keys R 0) no_rows casts_stay (no_spots begins rows g (Kept keys R 0) tt (λ n. tt)) 0 (coded 0) tt places places' declarations (λ k row. refl) (λ of of' to b xs ys spot. absurd spot) b of ms
+    Rowed b of ms = (k : MemberKey) → InMembers (λ m b. (tells m b).from) declarations (λ k b part. Unit {0}) b of ms k → HasRow rows (decl_of_member k)
 
     pub inits_walk : (of of' : ClassKey) → of' ≡ class_to g of → HasRow rows (class_decl of) → (b : ℕ) (ms : syntax.Members A) (q : Rewritten (syntax.Members A)) → RewritesMembers tells Chosen declarations b of ms q → q.losses ≡ []
         → Rowed b of ms → (ss ts : List StatementCode) → InitsCoded begins last rows places of b ms ss → InitsCoded begins last (rows_to g rows) places' of' b q.tree ts → Inits ss ts
