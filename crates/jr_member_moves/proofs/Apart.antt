@@ -12,7 +12,7 @@ use Rattle.jr_rewrite.specs.Rewritten.{Rewritten}
 use Rattle.jr_rewrite.specs.Spots.{Spotted, AreApart, SpotsAreApart}
 use Rattle.jr_local.specs.Bodies.{begins}
 use Rattle.jr_member_moves.specs.Selecting.{Declared}
-use Rattle.jr_member_moves.specs.Moves.{Moved, IsHeld, IsNewClass, Goes, Comes, goes_alone, comes_alone, both_spots, spots_if, Found, key, put_change}
+use Rattle.jr_member_moves.specs.Moves.{Moved, IsHeld, IsNewClass, Goes, Comes, goes_alone, comes_alone, both_spots, spots_if, key, put_change}
 use Rattle.jr_member_moves.specs.Laws.{PullUpIsApart}
 
 module _ (p : Program Span) (file at : ℕ) (x : Declared p file at) (to : ClassKey) (text : List ℕ) (items : List Item) (m : Moved p file at x to text items) (gone : Span) (put : Change)

@@ -1,5 +1,5 @@
 -- Keys of what doesn't move stay, and pull up moves its member to a key that no other has.
-use Rattle.std.proofs.Common.{◌≡◌, ◌≢◌, ◌∙◌, ◌||◌, ℕ, Bool, true, false, Decides, refl, sym, ap, subst, if◌then◌else◌}
+use Rattle.std.proofs.Common.{◌≡◌, ◌≢◌, ◌∙◌, ◌||◌, ℕ, Bool, true, false, Decides, refl, sym, ap, if◌then◌else◌}
 use Rattle.std.proofs.lemmas.Bool.{both_ways}
 use Rattle.jr_text.specs.declared.spans.Span.{Span}
 use Rattle.jr_table.specs.Keys.{ClassKey, FieldKey, MethodKey}
@@ -10,9 +10,8 @@ use Rattle.jr_members.specs.WrittenMembers.{decl_of_member}
 use Rattle.jr_bind.specs.Programs.{Program}
 use Rattle.jr_images.specs.Regions.{Images, image_of_member}
 use Rattle.jr_member_moves.specs.Places.{in_class, field_moved, method_moved}
-use Rattle.jr_member_moves.specs.Selecting.{is_in_the_way}
 use Rattle.jr_member_moves.specs.Moves.{Found, key}
-use Rattle.jr_member_moves.specs.Laws.{OthersStay, IsMove, PullsUpMove, images_of}
+use Rattle.jr_member_moves.specs.Laws.{OthersStay, PullsUpMove, images_of}
 
 -- by a test, one of two
 chosen : {T P : Type 0} (b : Bool) → Decides b P → (x y : T) → P → (if b then x else y) ≡ x
@@ -73,8 +72,8 @@ module _ (p : Program Span) (file at : ℕ) (f : Found p file at) where
   free k j r is =
       let declares : r.row.decl ≡ decl_of_member (in_class to moved) = r.declares ∙ ap decl_of_member is in
       both_ways (same_decl r.row.decl (decl_of_member (in_class to moved)))
-      ((decl_decides r.row.decl (decl_of_member (in_class to moved))).1 declares)
       (first_false (same_decl r.row.decl (decl_of_member (in_class to moved))) _ (f.free.free j r.row r.stands))
+      ((decl_decides r.row.decl (decl_of_member (in_class to moved))).1 declares)
 
   alone : (k : MemberKey) (j : ℕ) → IsRowOf p.rows (decl_of_member k) j → image_of_member m k ≡ image_of_member m moved → k ≡ moved
   alone k j r same = by_test (same_member k moved) (member_decides k moved)

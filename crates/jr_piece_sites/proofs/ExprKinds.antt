@@ -1,26 +1,16 @@
 -- What an expression is to its parts, on its spots. Each lemma is by cases on the kind.
-use Rattle.std.proofs.Common.{◌≡◌, ℕ, zero, suc, pred, ◌+◌, Bool, true, false, ◌&&◌, List, [], ◌∷◌, ◌++◌, is_none, refl, arith}
+use Rattle.std.proofs.Common.{◌≡◌, ℕ, pred, ◌+◌, Bool, List, [], ◌∷◌, ◌++◌, refl, arith}
 use Rattle.jr_text.specs.declared.spans.Span.{Span}
 use Rattle.jr_ast.specs.Tree as tree
 use Rattle.jr_ast.specs.Marks.{exp_mark}
-use Rattle.jr_table.specs.Rows.{Row}
 use Rattle.jr_bind_expr.specs.Fits.{FitsExp, FitsTarget, FitsExps}
-use Rattle.jr_cover.specs.Sites as sites
 use Rattle.jr_cover.specs.Spots.{spot_exp, spot_exps}
 use Rattle.jr_cover.specs.Ways.{size}
-use Rattle.jr_expr_sites.specs.KnownFacts.{Given, Others, known_of, meaning_at}
-use Rattle.jr_expr_sites.specs.Meanings.{Meaning, local, field, class, nothing, is_class, variable_of}
+use Rattle.jr_expr_sites.specs.KnownFacts.{Given, Others, known_of}
 use Rattle.jr_expr_sites.specs.Routes as route
 use Rattle.jr_expr_sites.specs.Routes.{begins_by, ends_by, spots}
 use Rattle.jr_piece_sites.specs.Fronts.{one_if, behind_first, in_front_of_second, exps_front, exp_front}
-use Rattle.jr_piece_sites.specs.Parts.{Between, changed, Parts, leaf, named, on_super, dotted, one, two, row, parts_of}
-
--- what means a class is no variable
-class_only : (rows : List Row) (m : Meaning) → is_none (variable_of rows m) && is_class m ≡ is_class m
-class_only rows (local n) = refl
-class_only rows (field k) = refl
-class_only rows class = refl
-class_only rows nothing = refl
+use Rattle.jr_piece_sites.specs.Parts.{changed, Parts, leaf, named, dotted, one, two, row, parts_of}
 
 zero_plus : (n : ℕ) → 0 + n ≡ n
 zero_plus n = omega arith
@@ -37,9 +27,8 @@ module _ {A : Type 0} (tells : A → ℕ → Span) where
   module _ (F : A → ℕ → Type 0) where
     abbrev pub FitsParts : (at : ℕ) → Parts A → Type 0
     FitsParts at leaf = Unit {0}
-    FitsParts at (named w) = F w.mark at
-    FitsParts at on_super = Unit {0}
-    FitsParts at (dotted e w) = FitsExp B F at e × F w.mark at
+    FitsParts at named = Unit {0}
+    FitsParts at (dotted e) = Unit {0}
     FitsParts at (one k e) = Unit {0}
     FitsParts at (two b l r) = FitsExp B F at l
     FitsParts at (row c to es) = FitsTarget B F at to × FitsExps B F at es
@@ -50,8 +39,8 @@ module _ {A : Type 0} (tells : A → ℕ → Span) where
     parts_fit base (tree.truth m b) f = tt
     parts_fit base (tree.null m) f = tt
     parts_fit base (tree.string m s) f = tt
-    parts_fit base (tree.name m w) f = f.1
-    parts_fit base (tree.field m e w) f = (f.1, f.2)
+    parts_fit base (tree.name m w) f = tt
+    parts_fit base (tree.field m e w) f = tt
     parts_fit base (tree.super_field m w) f = tt
     parts_fit base (tree.this m) f = tt
     parts_fit base (tree.class_literal m t) f = tt
@@ -69,77 +58,11 @@ module _ {A : Type 0} (tells : A → ℕ → Span) where
   -- ---- sites; at: where the node begins
 
   module _ (g : Given) (o : Others) (path : List ℕ) (base : ℕ) where
-    abbrev pub class_by : (at : ℕ) → Parts A → Bool
-    class_by at leaf = false
-    class_by at (named w) = is_class (meaning_at g (B w.mark at))
-    class_by at on_super = false
-    class_by at (dotted e w) = is_class (meaning_at g (B w.mark at))
-    class_by at (one k e) = false
-    class_by at (two b l r) = false
-    class_by at (row c t es) = false
-
-    pub class_spots : (e : tree.Exp A) → sites.is_class_name (known_of g o) (spots tells path base e) ≡ class_by (B (exp_mark e) base) (parts_of e)
-    unfolding spot_exp spot_exps
-    class_spots (tree.number m n) = refl
-    class_spots (tree.truth m b) = refl
-    class_spots (tree.null m) = refl
-    class_spots (tree.string m s) = refl
-    class_spots (tree.name m w) = class_only g.rows (meaning_at g (B w.mark (B m base)))
-    class_spots (tree.field m e w) = class_only g.rows (meaning_at g (B w.mark (B m base)))
-    class_spots (tree.super_field m w) = refl
-    class_spots (tree.this m) = refl
-    class_spots (tree.class_literal m t) = refl
-    class_spots (tree.call m tree.no_target w es) = refl
-    class_spots (tree.call m (tree.on e) w es) = refl
-    class_spots (tree.super_call m w es) = refl
-    class_spots (tree.create m t es) = refl
-    class_spots (tree.paren m e) = refl
-    class_spots (tree.cast m t e) = refl
-    class_spots (tree.unary m op e) = refl
-    class_spots (tree.bump m op e) = refl
-    class_spots (tree.binary m op l r) = refl
-    class_spots (tree.assign m l r) = refl
-    class_spots (tree.compound m op l r) = refl
-
-    -- of what is assigned
-    abbrev pub operand_by : (at : ℕ) → Parts A → ℕ
-    operand_by at leaf = 0
-    operand_by at (named w) = 0
-    operand_by at on_super = 0
-    operand_by at (dotted e w) = size (route.left tells (path ++ 0 ∷ []) at e g o)
-    operand_by at (one k e) = 0
-    operand_by at (two b l r) = 0
-    operand_by at (row c t es) = 0
-
-    pub operand_spots : (e : tree.Exp A) → size (route.target_operand tells path base e g o) ≡ operand_by (B (exp_mark e) base) (parts_of e)
-    unfolding spot_exp spot_exps
-    operand_spots (tree.number m n) = refl
-    operand_spots (tree.truth m b) = refl
-    operand_spots (tree.null m) = refl
-    operand_spots (tree.string m s) = refl
-    operand_spots (tree.name m w) = refl
-    operand_spots (tree.field m e w) = refl
-    operand_spots (tree.super_field m w) = refl
-    operand_spots (tree.this m) = refl
-    operand_spots (tree.class_literal m t) = refl
-    operand_spots (tree.call m tree.no_target w es) = refl
-    operand_spots (tree.call m (tree.on e) w es) = refl
-    operand_spots (tree.super_call m w es) = refl
-    operand_spots (tree.create m t es) = refl
-    operand_spots (tree.paren m e) = refl
-    operand_spots (tree.cast m t e) = refl
-    operand_spots (tree.unary m op e) = refl
-    operand_spots (tree.bump m op e) = refl
-    operand_spots (tree.binary m op l r) = refl
-    operand_spots (tree.assign m l r) = refl
-    operand_spots (tree.compound m op l r) = refl
-
     -- of what is changed; n: of its evaluation for its value
     abbrev pub read_by : (n : ℕ) → Parts A → ℕ
     read_by n leaf = 0
-    read_by n (named w) = n
-    read_by n on_super = n
-    read_by n (dotted e w) = n
+    read_by n named = n
+    read_by n (dotted e) = n
     read_by n (one k e) = 0
     read_by n (two b l r) = 0
     read_by n (row c t es) = 0
@@ -174,9 +97,8 @@ module _ {A : Type 0} (tells : A → ℕ → Span) where
 
     abbrev pub front_by : (at i : ℕ) → Parts A → ℕ
     front_by at i leaf = 0
-    front_by at i (named w) = 0
-    front_by at i on_super = 0
-    front_by at i (dotted e w) = 0
+    front_by at i named = 0
+    front_by at i (dotted e) = 0
     front_by at i (one k e) = 0
     front_by at i (two b l r) = behind_first i (in_front_of_second (known_of g o) b (spots tells (path ++ 0 ∷ []) at l))
     front_by at i (row c t es) = row_by at i c t es

@@ -1,8 +1,0 @@
-//! The law of flags.
-ghost use Rattle.jr_footprints.specs.MemberFlags.{FlagsTellTheMember};
-
-/// A graph or a footprint that is given the flags of its own member's locals has a test for null
-/// exactly where the value may be null.
-pub fn flags_tell_the_member()
-    ensures { FlagsTellTheMember }
-{}
