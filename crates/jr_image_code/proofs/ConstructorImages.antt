@@ -105,12 +105,12 @@ module _ {A : Type 0} (tells : A → ℕ → Span) (last : A → ℕ → ℕ) (r
       (by_images.exps.of_super_constructor p o (core.this None) (core.this None) q es fs (by_images.has.constructor q j row) (by_images.exps.of_this own None None) args))))
 
   parent_image : (k : CtorKey) (n z : ℕ) (c d : Context) → At n z c d → AreBelow size c.locals → IsPlace rows c → (base : ℕ) (args : Option (tree.Exps A)) (o : Rewritten (Option (tree.Exps A))) → TransformsSuper tells Chosen S c base args o → o.losses ≡ []
-      → (b i : ℕ) (p q : Place) (s t : StatementCode) → ParentCoded begins last rows places k c b p args s → ParentCoded begins last (rows_in R) places' (ctor_in R k) d i q o.tree t → X.stmt s t
-  parent_image k n z c d at below place base None o is none b i p q s t (x, finds, old) new =
+      → (i : ℕ) (p q : Place) (s t : StatementCode) → ParentCoded begins last rows places k c base p args s → ParentCoded begins last (rows_in R) places' (ctor_in R k) d i q o.tree t → X.stmt s t
+  parent_image k n z c d at below place base None o is none i p q s t (x, finds, old) new =
       let there = subst (λ (z : Rewritten (Option (tree.Exps A))). ParentCoded begins last (rows_in R) places' (ctor_in R k) d i q z.tree t) is new in
       let row = implicit_row c x finds in
       parent_by x there.0 row.0 row.1 (implicit c d (stands.for_it n z c d at).scope x there.0 finds there.1) (Some p) (Some q) core.Exps.end core.Exps.end by_images.exps.of_no_exps s t old there.2
-  parent_image k n z c d at below place base (Some args) o (h, v, spells, made, is) none b i p q s t (x, es, finds, codes, old) new =
+  parent_image k n z c d at below place base (Some args) o (h, v, spells, made, is) none i p q s t (x, es, finds, codes, old) new =
       let there = subst (λ (y : Rewritten (Option (tree.Exps A))). ParentCoded begins last (rows_in R) places' (ctor_in R k) d i q y.tree t) is new in
       let all = lost_none o _ is none in
       let inner = right_none (losses_of h) v.losses all in
@@ -121,15 +121,15 @@ module _ {A : Type 0} (tells : A → ℕ → Span) (last : A → ℕ → ℕ) (r
       (super_found c d stand args v.tree (λ ts have. kept_row tells rows R c d w super_at S parts base args v made inner ts (R.types_now c args ts) (w.args c args ts) have) h spells (left_none (losses_of h) v.losses all) x there.0 finds there.2
       (λ j ts found. let e = one_super rows old_are w.one_old c w.old args (constructor_decl j) (constructor_decl x) found finds in cc))
       (Some _) (Some _) es there.1
-      (row_images tells rows R c d w keys D X by_images (λ l m name found image. coded.locals n z c d at l m (number_below rows no_rows size c below l name found) image) (casts c place) super_at S parts spots base args v made inner b i es there.1 codes there.3)
+      (row_images tells rows R c d w keys D X by_images (λ l m name found image. coded.locals n z c d at l m (number_below rows no_rows size c below l name found) image) (casts c place) super_at S parts spots base args v made inner i es there.1 codes there.3)
       s t old there.4
 
   pub constructor_image : (k : CtorKey) → HasRow rows (class_decl k.class) → ((t : Ty) → Of t k.params → IsKnown rows t)
       → (base : ℕ) (m : A) (mods : List (syntax.Modifier A)) (w : tree.Word A) (ps : List (syntax.Param A)) (args : Option (tree.Exps A)) (body : statement.Stmts A) → length ps + locals_in_row body ≤ size
-      → (o : Rewritten (syntax.Member A)) → TransformsMember tells Chosen S (member.constructor k) base (syntax.constructor m mods w ps args body) o → o.losses ≡ [] → (b i : ℕ) (ss ts : List StatementCode)
+      → (o : Rewritten (syntax.Member A)) → TransformsMember tells Chosen S (member.constructor k) base (syntax.constructor m mods w ps args body) o → o.losses ≡ [] → (i : ℕ) (ss ts : List StatementCode)
       → AllTo X ss ts → (x y : core.Code RunKeys)
-      → ConstructorCoded begins last rows places k b ss (syntax.constructor m mods w ps args body) x → ConstructorCoded begins last (rows_in R) places' (ctor_in R k) i ts o.tree y → CodesTo X size x y
-  constructor_image k row types base m mods w ps args body fits o (v, q, p, z, declared, params, super_part, made, is) none b i ss ts inits x y (s, l, parent, code, old) new =
+      → ConstructorCoded begins last rows places k base ss (syntax.constructor m mods w ps args body) x → ConstructorCoded begins last (rows_in R) places' (ctor_in R k) i ts o.tree y → CodesTo X size x y
+  constructor_image k row types base m mods w ps args body fits o (v, q, p, z, declared, params, super_part, made, is) none i ss ts inits x y (s, l, parent, code, old) new =
       let all = lost_none o (joined (λ (u : tree.Word A × List (syntax.Param A)) (x : Option (tree.Exps A) × statement.Stmts A). syntax.constructor m mods u.0 u.1 x.0 x.1) (joined (λ u x. (u, x)) v q) (joined (λ u x. (u, x)) p z)) is none in
       let back = right_none (v.losses ++ q.losses) (p.losses ++ z.losses) all in
       let n = subst (λ (u : Rewritten (syntax.Member A)). ConstructorCoded begins last (rows_in R) places' (ctor_in R k) i ts u.tree y) is new in
@@ -142,10 +142,10 @@ module _ {A : Type 0} (tells : A → ℕ → Span) (last : A → ℕ → ℕ) (r
         no_more,
         stmts.of_more_stmts s n.0 (in_front ss l) (in_front ts n.1)
             (parent_image k (length ps) (length ps) (with_parameters (member.constructor k) true ps) (with_parameters (member_in R (member.constructor k)) true q.tree) (begin.parameters (member.constructor k) true _ ps q params)
-            below (place_of rows (member.constructor k) true ps row types) _ args p super_part (left_none p.losses z.losses back) _ _ _ _ s n.0 parent n.2)
+            below (place_of rows (member.constructor k) true ps row types) _ args p super_part (left_none p.losses z.losses back) _ _ _ s n.0 parent n.2)
             (in_front_image ss ts l n.1 inits
             (list_images tells last rows R super_at S parts At stands worlds keys D X by_images stmts no_rows casts spots size coded (length ps) (length ps)
             (with_parameters (member.constructor k) false ps) (with_parameters (member_in R (member.constructor k)) false q.tree) (begin.parameters (member.constructor k) false _ ps q params)
-            below (place_of rows (member.constructor k) false ps row types) _ body z made (right_none p.losses z.losses back) fits _ _ l n.1 code
+            below (place_of rows (member.constructor k) false ps row types) _ body z made (right_none p.losses z.losses back) fits _ l n.1 code
             (subst (λ (j : ℕ). StmtsCode begins last (rows_in R) j (with_parameters (member_in R (member.constructor k)) false q.tree) ((tells m i).from) z.tree n.1) count n.3))),
       ))

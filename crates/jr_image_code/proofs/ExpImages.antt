@@ -89,14 +89,14 @@ module _ {A : Type 0} (tells : A → ℕ → Span) (rows : List Row) (R : Region
   abbrev Chosen : Choosing A
   Chosen = choosing (λ m b. (tells m b).from) rows R super_at
 
-  abbrev Value : tree.Exp A → tree.Exp A → Type 0
-  Value e y = ExpsCoded (λ m b. (tells m b).from) rows R X c d e y
+  abbrev Value : (b : ℕ) → tree.Exp A → tree.Exp A → Type 0
+  Value b e y = ExpsCoded (λ m b. (tells m b).from) rows R X c d b e y
 
-  abbrev Both : tree.Exp A → tree.Exp A → Type 0
-  Both e y = AreCoded (λ m b. (tells m b).from) rows R X c d e y
+  abbrev Both : (b : ℕ) → tree.Exp A → tree.Exp A → Type 0
+  Both b e y = AreCoded (λ m b. (tells m b).from) rows R X c d b e y
 
-  abbrev Row_to : tree.Exps A → tree.Exps A → Type 0
-  Row_to es ys = RowGoal tells rows R c d w keys D X by_images locals es ys
+  abbrev Row_to : (b : ℕ) → tree.Exps A → tree.Exps A → Type 0
+  Row_to b es ys = RowGoal tells rows R c d w keys D X by_images locals b es ys
 
   by : (x Y z Z : Code) → x ≡ Y → z ≡ Z → X.exp Y Z → X.exp x z
   by x Y z Z a b h = exps_by tells rows R c d w keys D X by_images x Y z Z a b h
@@ -104,11 +104,11 @@ module _ {A : Type 0} (tells : A → ℕ → Span) (rows : List Row) (R : Region
   -- ---- creations
 
   module _ (m : A) (t u : tree.TypeName A) (args es : tree.Exps A) (type_goes : (k : Ty) → WritesType rows (scope_of c) t k → WritesType (rows_in R) (scope_of d) u (type_in R k))
-      (args_to : (ts : List Ty) → HaveTypes rows c args ts → HaveTypes (rows_in R) d es (R.types_now c args ts)) (row : Row_to args es) (base : ℕ) (h : Choice) (none : losses_of h ≡ []) where
+      (args_to : (ts : List Ty) → HaveTypes rows c args ts → HaveTypes (rows_in R) d es (R.types_now c args ts)) (base : ℕ) (row : Row_to ((tells m base).from) args es) (h : Choice) (none : losses_of h ≡ []) where
     created : (k : ClassKey) (q : CtorKey) → WritesType rows (scope_of c) t (class k) → CreationFinds rows c t args (one (constructor_decl q))
-        → CreationFinds (rows_in R) d u es (one (constructor_decl (ctor_in R q))) → ((j : ℕ) × IsRowOf rows (constructor_decl q) j) → Value (tree.create m t args) (tree.create m u es)
+        → CreationFinds (rows_in R) d u es (one (constructor_decl (ctor_in R q))) → ((j : ℕ) × IsRowOf rows (constructor_decl q) j) → Value base (tree.create m t args) (tree.create m u es)
     unfolding ExpCode
-    created k q written finds found (j, there) b i x z (o, p, xs, type, old, codes, is) (s, v, zs, other, new, others, was) =
+    created k q written finds found (j, there) i x z (o, p, xs, type, old, codes, is) (s, v, zs, other, new, others, was) =
         let old_type = written_once rows w.one_old (scope_of c) t (class o) (class k) type written in
         let class_old : o ≡ k = cc in
         let new_type = written_once (rows_in R) w.one_new (scope_of d) u (class s) (class (class_in R k)) other (type_goes (class k) written) in
@@ -124,14 +124,14 @@ module _ {A : Type 0} (tells : A → ℕ → Span) (rows : List Row) (R : Region
         (is ∙ (λ l. core.create at (class_old l) (ctor_old l) xs)) (was ∙ (λ l. core.create to_at (class_new l) (ctor_new l) zs))
         (subst (λ (n : ClassKey). X.exp (core.create at k q xs) (core.create to_at n (ctor_in R q) zs)) (by_images.maps.class k here.0 here.1)
         (subst (λ (n : CtorKey). X.exp (core.create at k q xs) (core.create to_at (keys.class k) n zs)) (by_images.maps.constructor q j there)
-        (by_images.exps.of_create at to_at k q xs zs (by_images.has.constructor q j there) (row _ _ xs zs codes others))))
+        (by_images.exps.of_create at to_at k q xs zs (by_images.has.constructor q j there) (row _ xs zs codes others))))
 
     created_row : (q : CtorKey) → CreationFinds rows c t args (one (constructor_decl q)) → (j : ℕ) × IsRowOf rows (constructor_decl q) j
     created_row q (inl (k, written, inl (ts, types, (a, finds, shows)))) = shown_row rows a (constructor_decl q) shows
     created_row q (inl (k, written, inr (not, is))) = absurd cc
     created_row q (inr (not, is)) = absurd cc
 
-    creation_goal : CreationChoice (λ m b. (tells m b).from) rows R c base (tree.create m t args) h → Value (tree.create m t args) (tree.create m u es)
+    creation_goal : CreationChoice (λ m b. (tells m b).from) rows R c base (tree.create m t args) h → Value base (tree.create m t args) (tree.create m u es)
     creation_goal (k, q, ts, written, finds, types, inl (f, taken, is)) = created k q written finds
         (inl (
           class_in R k,
@@ -186,10 +186,10 @@ module _ {A : Type 0} (tells : A → ℕ → Span) (rows : List Row) (R : Region
 
   -- node by node, or as a spot has it
   pub part_goals : (k : Asks) (r : Role) (base : ℕ) (e : tree.Exp A) (p : Rewritten (tree.Exp A)) → TransformsPart tells Chosen S k c r base e p → p.losses ≡ []
-      → (TransformsExp tells Chosen S c r base e p → (IsOnThis rows c e → X.own) → Both e p.tree) → Both e p.tree
+      → (TransformsExp tells Chosen S c r base e p → (IsOnThis rows c e → X.own) → Both base e p.tree) → Both base e p.tree
   part_goals k r base e p made none by_node = by_spots S (λ stays h. spots.on_this k c r base e stays h) made (λ spot. spots.parts k c d r base e 0 p.tree spot w.stand)
     where
-      by_spots : (s : Spotted A) → (PartStays s k c r base e → IsOnThis rows c e → X.own) → OrPart s k c r base e p (TransformsExp tells Chosen S c r base e p) → (SpotStands s k c d r base e 0 p.tree → Both e p.tree) → Both e p.tree
+      by_spots : (s : Spotted A) → (PartStays s k c r base e → IsOnThis rows c e → X.own) → OrPart s k c r base e p (TransformsExp tells Chosen S c r base e p) → (SpotStands s k c d r base e 0 p.tree → Both base e p.tree) → Both base e p.tree
       by_spots nowhere own inner is = by_node inner (λ h. own tt h)
       by_spots (spotted s) own (inl (stays, inner)) is = by_node inner (own stays)
       by_spots (spotted s) own (inr spot) is = is (p, spot, none, refl)
@@ -240,18 +240,18 @@ module _ {A : Type 0} (tells : A → ℕ → Span) (rows : List Row) (R : Region
   free_target (tree.assign m e f) free j t h = absurd h
   free_target (tree.compound m o e f) free j t h = absurd h
 
-  part_free : (base : ℕ) (e : tree.Exp A) (p : Rewritten (tree.Exp A)) → TransformsPart tells Chosen S a_target c value base e p → p.losses ≡ [] → (j : ℕ) (t : TargetCode)
-      → TargetOf (λ m b. (tells m b).from) rows c j e t → IsFreeTarget X.free t
-  part_free base e p made none j t code = by_spots S (λ stays k h. spots.written c base e k stays h) made (λ spot. spots.targets c d base e 0 p.tree spot w.stand j t code)
+  part_free : (base : ℕ) (e : tree.Exp A) (p : Rewritten (tree.Exp A)) → TransformsPart tells Chosen S a_target c value base e p → p.losses ≡ [] → (t : TargetCode)
+      → TargetOf (λ m b. (tells m b).from) rows c base e t → IsFreeTarget X.free t
+  part_free base e p made none t code = by_spots S (λ stays k h. spots.written c base e k stays h) made (λ spot. spots.targets c d base e 0 p.tree spot w.stand t code)
     where
       by_spots : (s : Spotted A) → (PartStays s a_target c value base e → (k : LocalKey) → IsLocal rows c e k → X.free k.number) → OrPart s a_target c value base e p (TransformsExp tells Chosen S c value base e p)
           → (SpotStands s a_target c d value base e 0 p.tree → IsFreeTarget X.free t) → IsFreeTarget X.free t
-      by_spots nowhere free inner is = free_target e (free tt) j t code
-      by_spots (spotted s) free (inl (stays, inner)) is = free_target e (free stays) j t code
+      by_spots nowhere free inner is = free_target e (free tt) base t code
+      by_spots (spotted s) free (inl (stays, inner)) is = free_target e (free stays) base t code
       by_spots (spotted s) free (inr spot) is = is (p, spot, none, refl)
 
-  move : (e : tree.Exp A) (o p : Rewritten (tree.Exp A)) → o ≡ p → Both e p.tree → Both e o.tree
-  move e o p is goal = subst (λ (z : Rewritten (tree.Exp A)). Both e z.tree) (sym is) goal
+  move : (base : ℕ) (e : tree.Exp A) (o p : Rewritten (tree.Exp A)) → o ≡ p → Both base e p.tree → Both base e o.tree
+  move base e o p is goal = subst (λ (z : Rewritten (tree.Exp A)). Both base e z.tree) (sym is) goal
 
   abbrev here : A → ℕ → Place
   here m b = place (λ m b. (tells m b).from) rows c ((tells m b).from)
@@ -271,120 +271,120 @@ module _ {A : Type 0} (tells : A → ℕ → Span) (rows : List Row) (R : Region
   mutual
     unfolding TransformsExp TransformsTarget TransformsRow ExpCode TargetOf RowCode
 
-    pub images : (r : Role) (base : ℕ) (e : tree.Exp A) (o : Rewritten (tree.Exp A)) → TransformsExp tells Chosen S c r base e o → (IsOnThis rows c e → X.own) → o.losses ≡ [] → Both e o.tree
-    images r base (tree.number m n) o is on_this none = move (tree.number m n) o (plain (tree.number m n)) is ((λ b i x z old new. literal_pair (here m b) (there m i) (core_value.int (wrapped (pos n))) x z old new), (λ b i t u old new. absurd old))
-    images r base (tree.truth m n) o is on_this none = move (tree.truth m n) o (plain (tree.truth m n)) is ((λ b i x z old new. literal_pair (here m b) (there m i) (core_value.truth n) x z old new), (λ b i t u old new. absurd old))
-    images r base (tree.null m) o is on_this none = move (tree.null m) o (plain (tree.null m)) is ((λ b i x z old new. literal_pair (here m b) (there m i) core_value.null x z old new), (λ b i t u old new. absurd old))
-    images r base (tree.string m s) o is on_this none = move (tree.string m s) o (plain (tree.string m s)) is ((λ b i x z old new. literal_pair (here m b) (there m i) (core_value.text (unescaped false s)) x z old new), (λ b i t u old new. absurd old))
-    images r base (tree.this m) o made on_this none = let here_is = this_here S spots.this made in move (tree.this m) o (plain (tree.this m)) here_is.1 (
-      (λ b i x z old new. by x (core.this (Some (here m b))) z (core.this (Some (there m i))) old new (by_images.exps.of_this here_is.0 (Some (here m b)) (Some (there m i)))),
-      (λ b i t u old new. absurd old),
+    pub images : (r : Role) (base : ℕ) (e : tree.Exp A) (o : Rewritten (tree.Exp A)) → TransformsExp tells Chosen S c r base e o → (IsOnThis rows c e → X.own) → o.losses ≡ [] → Both base e o.tree
+    images r base (tree.number m n) o is on_this none = move base (tree.number m n) o (plain (tree.number m n)) is ((λ i x z old new. literal_pair (here m base) (there m i) (core_value.int (wrapped (pos n))) x z old new), (λ i t u old new. absurd old))
+    images r base (tree.truth m n) o is on_this none = move base (tree.truth m n) o (plain (tree.truth m n)) is ((λ i x z old new. literal_pair (here m base) (there m i) (core_value.truth n) x z old new), (λ i t u old new. absurd old))
+    images r base (tree.null m) o is on_this none = move base (tree.null m) o (plain (tree.null m)) is ((λ i x z old new. literal_pair (here m base) (there m i) core_value.null x z old new), (λ i t u old new. absurd old))
+    images r base (tree.string m s) o is on_this none = move base (tree.string m s) o (plain (tree.string m s)) is ((λ i x z old new. literal_pair (here m base) (there m i) (core_value.text (unescaped false s)) x z old new), (λ i t u old new. absurd old))
+    images r base (tree.this m) o made on_this none = let here_is = this_here S spots.this made in move base (tree.this m) o (plain (tree.this m)) here_is.1 (
+      (λ i x z old new. by x (core.this (Some (here m base))) z (core.this (Some (there m i))) old new (by_images.exps.of_this here_is.0 (Some (here m base)) (Some (there m i)))),
+      (λ i t u old new. absurd old),
     )
-    images r base (tree.name m v) o (h, inl (inl (k, spells)), is) on_this none = move (tree.name m v) o (name_out tells h m base v) is (local_goals tells rows R c d w keys D X by_images locals m v _ h (lost_none o (name_out tells h m base v) is none) k spells)
-    images r base (tree.name m v) o (h, inl (inr (k, spells)), is) on_this none = move (tree.name m v) o (name_out tells h m base v) is (own_field_goals tells rows R c d w keys D X by_images locals m v _ h (lost_none o (name_out tells h m base v) is none) on_this k spells)
-    images r base (tree.name m v) o (h, inr spells, is) on_this none = class_goals tells rows R c d w keys D X by_images locals m v _ h (lost_none o (name_out tells h m base v) is none) r spells o.tree
+    images r base (tree.name m v) o (h, inl (inl (k, spells)), is) on_this none = move base (tree.name m v) o (name_out tells h m base v) is (local_goals tells rows R c d w keys D X by_images locals base m v _ h (lost_none o (name_out tells h m base v) is none) k spells)
+    images r base (tree.name m v) o (h, inl (inr (k, spells)), is) on_this none = move base (tree.name m v) o (name_out tells h m base v) is (own_field_goals tells rows R c d w keys D X by_images locals base m v _ h (lost_none o (name_out tells h m base v) is none) on_this k spells)
+    images r base (tree.name m v) o (h, inr spells, is) on_this none = class_goals tells rows R c d w keys D X by_images locals base m v _ h (lost_none o (name_out tells h m base v) is none) r spells o.tree
     images r base (tree.field m e v) o (h, p, inl spells, inner, is) on_this none = let all = lost_none o (field_out tells h m base e p v) is none in
-        move (tree.field m e v) o (field_out tells h m base e p v) is (field_goals tells rows R c d w keys D X by_images locals m e p.tree v _ h (right_none (operand_losses tells h p.losses) (losses_of h) all)
+        move base (tree.field m e v) o (field_out tells h m base e p v) is (field_goals tells rows R c d w keys D X by_images locals base m e p.tree v _ h (right_none (operand_losses tells h p.losses) (losses_of h) all)
         (λ stays. let left_none_lost = operand_none tells rows R c d w super_at S parts h p.losses all stays in (part_becomes (operand_asks (front_of h)) left ((tells m base).from) e p inner left_none_lost, (part_goals (operand_asks (front_of h)) left ((tells m base).from) e p inner left_none_lost (λ x own. images left ((tells m base).from) e p x own left_none_lost)).0)) spells)
     images r base (tree.field m e v) o (h, p, inr spells, inner, is) on_this none = let all = lost_none o (field_out tells h m base e p v) is none in
-        member_class_goals tells rows R c d w keys D X by_images locals m e p.tree v _ h (right_none (operand_losses tells h p.losses) (losses_of h) all)
+        member_class_goals tells rows R c d w keys D X by_images locals base m e p.tree v _ h (right_none (operand_losses tells h p.losses) (losses_of h) all)
         (λ stays. let left_none_lost = operand_none tells rows R c d w super_at S parts h p.losses all stays in (part_becomes (operand_asks (front_of h)) left ((tells m base).from) e p inner left_none_lost, (part_goals (operand_asks (front_of h)) left ((tells m base).from) e p inner left_none_lost (λ x own. images left ((tells m base).from) e p x own left_none_lost)).0)) r spells o.tree
-    images r base (tree.super_field m v) o (h, spells, is) on_this none = move (tree.super_field m v) o (super_field_out tells h m base v) is (super_field_goals tells rows R c d w keys D X by_images locals m v _ h (lost_none o (super_field_out tells h m base v) is none) on_this spells)
-    images r base (tree.class_literal m t) o (p, types, is) on_this none = move (tree.class_literal m t) o (within (λ u. tree.class_literal m u) p) is (
-      (λ b i x z (k, written, old) (n, other, new).
+    images r base (tree.super_field m v) o (h, spells, is) on_this none = move base (tree.super_field m v) o (super_field_out tells h m base v) is (super_field_goals tells rows R c d w keys D X by_images locals base m v _ h (lost_none o (super_field_out tells h m base v) is none) on_this spells)
+    images r base (tree.class_literal m t) o (p, types, is) on_this none = move base (tree.class_literal m t) o (within (λ u. tree.class_literal m u) p) is (
+      (λ i x z (k, written, old) (n, other, new).
           let all = lost_none o (within (λ u. tree.class_literal m u) p) is none in
           let type = written_once (rows_in R) w.one_new (scope_of d) p.tree (class n) (class (class_in R k)) other (type_kept tells rows R c d w super_at _ t p types all (class k) written) in
           let same : n ≡ class_in R k = cc in
           let row = written_row rows (scope_of c) t k written in
-          literal_pair (here m b) (there m i) (core_value.class_object k) x z old (new ∙ ap (λ (l : ClassKey). core.literal (Some (there m i)) (core_value.class_object l)) (same ∙ sym (by_images.maps.class k row.0 row.1)))),
-      (λ b i t u old new. absurd old),
+          literal_pair (here m base) (there m i) (core_value.class_object k) x z old (new ∙ ap (λ (l : ClassKey). core.literal (Some (there m i)) (core_value.class_object l)) (same ∙ sym (by_images.maps.class k row.0 row.1)))),
+      (λ i t u old new. absurd old),
     )
     images r base (tree.call m tree.no_target v args) o (h, p, q, spells, target, row, is) on_this none =
         let out = is ∙ ap (λ (z : Rewritten (Called tells)). joined (λ (t : Called tells) es. tree.call m t.target t.word es) z q) target in
         let all = lost_none o (joined (λ (t : Called tells) es. tree.call m t.target t.word es) (simple_call_out tells h m base v) q) out none in
-        move (tree.call m tree.no_target v args) o (joined (λ (t : Called tells) es. tree.call m t.target t.word es) (simple_call_out tells h m base v) q) out (
-          simple_call_goal tells rows R c d w keys D X by_images locals m v args q.tree (λ ts types. kept_row tells rows R c d w super_at S parts _ args q row (right_none (losses_of h) q.losses all) ts (R.types_now c args ts) (w.args c args ts) types)
+        move base (tree.call m tree.no_target v args) o (joined (λ (t : Called tells) es. tree.call m t.target t.word es) (simple_call_out tells h m base v) q) out (
+          simple_call_goal tells rows R c d w keys D X by_images locals base m v args q.tree (λ ts types. kept_row tells rows R c d w super_at S parts _ args q row (right_none (losses_of h) q.losses all) ts (R.types_now c args ts) (w.args c args ts) types)
               (row_images _ args q row (right_none (losses_of h) q.losses all)) _ h (left_none (losses_of h) q.losses all) on_this spells,
-          (λ b i t u old new. absurd old),
+          (λ i t u old new. absurd old),
         )
     images r base (tree.call m (tree.on e) v args) o (h, p, q, spells, (x, inner, target), row, is) on_this none =
         let out = is ∙ ap (λ (z : Rewritten (Called tells)). joined (λ (t : Called tells) es. tree.call m t.target t.word es) z q) target in
         let all = lost_none o (joined (λ (t : Called tells) es. tree.call m t.target t.word es) (dotted_call_out tells h m base e x v) q) out none in
         let front = left_none (operand_losses tells h x.losses ++ losses_of h) q.losses all in
         let back = right_none (operand_losses tells h x.losses ++ losses_of h) q.losses all in
-        move (tree.call m (tree.on e) v args) o (joined (λ (t : Called tells) es. tree.call m t.target t.word es) (dotted_call_out tells h m base e x v) q) out (
-          dotted_call_goal tells rows R c d w keys D X by_images locals m v args q.tree (λ ts types. kept_row tells rows R c d w super_at S parts _ args q row back ts (R.types_now c args ts) (w.args c args ts) types)
+        move base (tree.call m (tree.on e) v args) o (joined (λ (t : Called tells) es. tree.call m t.target t.word es) (dotted_call_out tells h m base e x v) q) out (
+          dotted_call_goal tells rows R c d w keys D X by_images locals base m v args q.tree (λ ts types. kept_row tells rows R c d w super_at S parts _ args q row back ts (R.types_now c args ts) (w.args c args ts) types)
               (row_images _ args q row back) _ h (right_none (operand_losses tells h x.losses) (losses_of h) front) e x.tree
               (λ stays. let left_none_lost = operand_none tells rows R c d w super_at S parts h x.losses front stays in (part_becomes (operand_asks (front_of h)) left ((tells m base).from) e x inner left_none_lost, (part_goals (operand_asks (front_of h)) left ((tells m base).from) e x inner left_none_lost (λ y own. images left ((tells m base).from) e x y own left_none_lost)).0)) spells,
-          (λ b i t u old new. absurd old),
+          (λ i t u old new. absurd old),
         )
     images r base (tree.super_call m v args) o (h, q, spells, row, is) on_this none =
         let all = lost_none o (joined (λ v es. tree.super_call m v es) (word_out tells h ((tells m base).from) v) q) is none in
-        move (tree.super_call m v args) o (joined (λ v es. tree.super_call m v es) (word_out tells h ((tells m base).from) v) q) is (
-          super_call_goal tells rows R c d w keys D X by_images locals m v args q.tree (λ ts types. kept_row tells rows R c d w super_at S parts _ args q row (right_none (losses_of h) q.losses all) ts (R.types_now c args ts) (w.args c args ts) types)
+        move base (tree.super_call m v args) o (joined (λ v es. tree.super_call m v es) (word_out tells h ((tells m base).from) v) q) is (
+          super_call_goal tells rows R c d w keys D X by_images locals base m v args q.tree (λ ts types. kept_row tells rows R c d w super_at S parts _ args q row (right_none (losses_of h) q.losses all) ts (R.types_now c args ts) (w.args c args ts) types)
               (row_images _ args q row (right_none (losses_of h) q.losses all)) _ h (left_none (losses_of h) q.losses all) on_this spells,
-          (λ b i t u old new. absurd old),
+          (λ i t u old new. absurd old),
         )
     images r base (tree.create m t args) o (h, p, q, spells, types, row, is) on_this none =
         let all = lost_none o _ is none in
         let inside = right_none (losses_of h) (p.losses ++ q.losses) all in
-        move (tree.create m t args) o _ is (
+        move base (tree.create m t args) o _ is (
           creation_goal m t p.tree args q.tree (type_kept tells rows R c d w super_at _ t p types (left_none p.losses q.losses inside))
-              (λ ts have. kept_row tells rows R c d w super_at S parts _ args q row (right_none p.losses q.losses inside) ts (R.types_now c args ts) (w.args c args ts) have) (row_images _ args q row (right_none p.losses q.losses inside)) base h (left_none (losses_of h) (p.losses ++ q.losses) all) spells,
-          (λ b i t u old new. absurd old),
+              (λ ts have. kept_row tells rows R c d w super_at S parts _ args q row (right_none p.losses q.losses inside) ts (R.types_now c args ts) (w.args c args ts) have) base (row_images _ args q row (right_none p.losses q.losses inside)) h (left_none (losses_of h) (p.losses ++ q.losses) all) spells,
+          (λ i t u old new. absurd old),
         )
     images r base (tree.paren m e) o (p, inner, is) on_this none =
         let all = lost_none o (within (λ x. tree.paren m x) p) is none in
-        move (tree.paren m e) o (within (λ x. tree.paren m x) p) is ((λ b i x z old new. (part_goals (level 0) value ((tells m base).from) e p inner all (λ x own. images value ((tells m base).from) e p x own all)).0 _ _ x z old new), (λ b i t u old new. absurd old))
+        move base (tree.paren m e) o (within (λ x. tree.paren m x) p) is ((λ i x z old new. (part_goals (level 0) value ((tells m base).from) e p inner all (λ x own. images value ((tells m base).from) e p x own all)).0 _ x z old new), (λ i t u old new. absurd old))
     images r base (tree.cast m t e) o (p, q, types, inner, is) on_this none =
         let all = lost_none o (joined (λ u x. tree.cast m u x) p q) is none in
         let back = right_none p.losses q.losses all in
-        move (tree.cast m t e) o (joined (λ u x. tree.cast m u x) p q) is (
-          (λ b i x z (a, u, y, has, written, code, old) (n, l, s, new_has, new_written, new_code, new).
+        move base (tree.cast m t e) o (joined (λ u x. tree.cast m u x) p q) is (
+          (λ i x z (a, u, y, has, written, code, old) (n, l, s, new_has, new_written, new_code, new).
               cast_pair e q.tree t p.tree (part_becomes (level unsigned_level) value ((tells m base).from) e q inner back).typed (type_kept tells rows R c d w super_at _ t p types (left_none p.losses q.losses all))
-              a u n l _ _ y s x z has written new_has new_written old new ((part_goals (level unsigned_level) value ((tells m base).from) e q inner back (λ x own. images value ((tells m base).from) e q x own back)).0 _ _ y s code new_code)),
-          (λ b i t u old new. absurd old),
+              a u n l _ _ y s x z has written new_has new_written old new ((part_goals (level unsigned_level) value ((tells m base).from) e q inner back (λ x own. images value ((tells m base).from) e q x own back)).0 _ y s code new_code)),
+          (λ i t u old new. absurd old),
         )
     images r base (tree.unary m s e) o (p, inner, is) on_this none =
         let all = lost_none o (within (λ x. tree.unary m s x) p) is none in
-        move (tree.unary m s e) o (within (λ x. tree.unary m s x) p) is (
-          (λ b i x z (y, code, old) (n, new_code, new). by x _ z _ old new (by_images.exps.of_signed _ _ (sign_of s) y n ((part_goals (level sign_level) value ((tells m base).from) e p inner all (λ x own. images value ((tells m base).from) e p x own all)).0 _ _ y n code new_code))),
-          (λ b i t u old new. absurd old),
+        move base (tree.unary m s e) o (within (λ x. tree.unary m s x) p) is (
+          (λ i x z (y, code, old) (n, new_code, new). by x _ z _ old new (by_images.exps.of_signed _ _ (sign_of s) y n ((part_goals (level sign_level) value ((tells m base).from) e p inner all (λ x own. images value ((tells m base).from) e p x own all)).0 _ y n code new_code))),
+          (λ i t u old new. absurd old),
         )
     images r base (tree.bump m s e) o (p, inner, is) on_this none =
         let all = lost_none o (within (λ x. tree.bump m s x) p) is none in
-        move (tree.bump m s e) o (within (λ x. tree.bump m s x) p) is (
-          (λ b i x z (t, code, old) (u, new_code, new). by x _ z _ old new (by_images.exps.of_bump _ _ (bump_of s) t u ((part_goals a_target value ((tells m base).from) e p inner all (λ x own. images value ((tells m base).from) e p x own all)).1 _ _ t u code new_code) (part_free ((tells m base).from) e p inner all _ t code))),
-          (λ b i t u old new. absurd old),
+        move base (tree.bump m s e) o (within (λ x. tree.bump m s x) p) is (
+          (λ i x z (t, code, old) (u, new_code, new). by x _ z _ old new (by_images.exps.of_bump _ _ (bump_of s) t u ((part_goals a_target value ((tells m base).from) e p inner all (λ x own. images value ((tells m base).from) e p x own all)).1 _ t u code new_code) (part_free ((tells m base).from) e p inner all t code))),
+          (λ i t u old new. absurd old),
         )
     images r base (tree.binary m s e f) o (p, q, first, second, is) on_this none =
         let all = lost_none o (joined (λ u v. tree.binary m s u v) p q) is none in
-        move (tree.binary m s e f) o (joined (λ u v. tree.binary m s u v) p q) is (
-          (λ b i x z (y, n, one_code, other_code, old) (s1, t1, new_one, new_other, new). by x _ z _ old new (operation_image keys D X by_images.exps _ _ s y s1 n t1
-              ((part_goals (level (rank_of s)) value ((tells m base).from) e p first (left_none p.losses q.losses all) (λ x own. images value ((tells m base).from) e p x own (left_none p.losses q.losses all))).0 _ _ y s1 one_code new_one) ((part_goals (level (suc (rank_of s))) value ((tells m base).from) f q second (right_none p.losses q.losses all) (λ x own. images value ((tells m base).from) f q x own (right_none p.losses q.losses all))).0 _ _ n t1 other_code new_other))),
-          (λ b i t u old new. absurd old),
+        move base (tree.binary m s e f) o (joined (λ u v. tree.binary m s u v) p q) is (
+          (λ i x z (y, n, one_code, other_code, old) (s1, t1, new_one, new_other, new). by x _ z _ old new (operation_image keys D X by_images.exps _ _ s y s1 n t1
+              ((part_goals (level (rank_of s)) value ((tells m base).from) e p first (left_none p.losses q.losses all) (λ x own. images value ((tells m base).from) e p x own (left_none p.losses q.losses all))).0 _ y s1 one_code new_one) ((part_goals (level (suc (rank_of s))) value ((tells m base).from) f q second (right_none p.losses q.losses all) (λ x own. images value ((tells m base).from) f q x own (right_none p.losses q.losses all))).0 _ n t1 other_code new_other))),
+          (λ i t u old new. absurd old),
         )
     images r base (tree.assign m e f) o (p, q, first, second, is) on_this none =
         let all = lost_none o (joined (λ u v. tree.assign m u v) p q) is none in
-        move (tree.assign m e f) o (joined (λ u v. tree.assign m u v) p q) is (
-          (λ b i x z (y, n, one_code, other_code, old) (s1, t1, new_one, new_other, new). by x _ z _ old new (by_images.exps.of_assign _ _ y s1 n t1
-              ((part_goals a_target value ((tells m base).from) e p first (left_none p.losses q.losses all) (λ x own. images value ((tells m base).from) e p x own (left_none p.losses q.losses all))).1 _ _ y s1 one_code new_one) (part_free ((tells m base).from) e p first (left_none p.losses q.losses all) _ y one_code) ((part_goals (level 0) value ((tells m base).from) f q second (right_none p.losses q.losses all) (λ x own. images value ((tells m base).from) f q x own (right_none p.losses q.losses all))).0 _ _ n t1 other_code new_other))),
-          (λ b i t u old new. absurd old),
+        move base (tree.assign m e f) o (joined (λ u v. tree.assign m u v) p q) is (
+          (λ i x z (y, n, one_code, other_code, old) (s1, t1, new_one, new_other, new). by x _ z _ old new (by_images.exps.of_assign _ _ y s1 n t1
+              ((part_goals a_target value ((tells m base).from) e p first (left_none p.losses q.losses all) (λ x own. images value ((tells m base).from) e p x own (left_none p.losses q.losses all))).1 _ y s1 one_code new_one) (part_free ((tells m base).from) e p first (left_none p.losses q.losses all) y one_code) ((part_goals (level 0) value ((tells m base).from) f q second (right_none p.losses q.losses all) (λ x own. images value ((tells m base).from) f q x own (right_none p.losses q.losses all))).0 _ n t1 other_code new_other))),
+          (λ i t u old new. absurd old),
         )
     images r base (tree.compound m s e f) o (p, q, first, second, is) on_this none =
         let all = lost_none o (joined (λ u v. tree.compound m s u v) p q) is none in
-        move (tree.compound m s e f) o (joined (λ u v. tree.compound m s u v) p q) is (
-          (λ b i x z (a, y, n, arithmetic, one_code, other_code, old) (l, s1, t1, other_arithmetic, new_one, new_other, new).
+        move base (tree.compound m s e f) o (joined (λ u v. tree.compound m s u v) p q) is (
+          (λ i x z (a, y, n, arithmetic, one_code, other_code, old) (l, s1, t1, other_arithmetic, new_one, new_other, new).
               let same_some = sym other_arithmetic ∙ arithmetic in
               let same : l ≡ a = cc in
               by x _ z _ old (new ∙ ap (λ (k : core.Arithmetic). core.compound (Some (there m i)) k s1 t1) same) (by_images.exps.of_compound _ _ a y s1 n t1
-              ((part_goals a_target value ((tells m base).from) e p first (left_none p.losses q.losses all) (λ x own. images value ((tells m base).from) e p x own (left_none p.losses q.losses all))).1 _ _ y s1 one_code new_one) (part_free ((tells m base).from) e p first (left_none p.losses q.losses all) _ y one_code) ((part_goals (level 0) value ((tells m base).from) f q second (right_none p.losses q.losses all) (λ x own. images value ((tells m base).from) f q x own (right_none p.losses q.losses all))).0 _ _ n t1 other_code new_other))),
-          (λ b i t u old new. absurd old),
+              ((part_goals a_target value ((tells m base).from) e p first (left_none p.losses q.losses all) (λ x own. images value ((tells m base).from) e p x own (left_none p.losses q.losses all))).1 _ y s1 one_code new_one) (part_free ((tells m base).from) e p first (left_none p.losses q.losses all) y one_code) ((part_goals (level 0) value ((tells m base).from) f q second (right_none p.losses q.losses all) (λ x own. images value ((tells m base).from) f q x own (right_none p.losses q.losses all))).0 _ n t1 other_code new_other))),
+          (λ i t u old new. absurd old),
         )
 
-    pub row_images : (at : ℕ) (es : tree.Exps A) (q : Rewritten (tree.Exps A)) → TransformsRow tells Chosen S c at es q → q.losses ≡ [] → Row_to es q.tree
-    row_images at tree.end q is none = subst (λ (z : Rewritten (tree.Exps A)). Row_to tree.end z.tree) (sym is) (λ b i xs zs old new. ends xs zs old new)
+    pub row_images : (at : ℕ) (es : tree.Exps A) (q : Rewritten (tree.Exps A)) → TransformsRow tells Chosen S c at es q → q.losses ≡ [] → Row_to at es q.tree
+    row_images at tree.end q is none = subst (λ (z : Rewritten (tree.Exps A)). Row_to at tree.end z.tree) (sym is) (λ i xs zs old new. ends xs zs old new)
     row_images at (tree.more e es) q (x, xs, inner, rest, is) none =
         let all = lost_none q (joined (λ y ys. tree.more y ys) x xs) is none in
-        subst (λ (z : Rewritten (tree.Exps A)). Row_to (tree.more e es) z.tree) (sym is) (λ b i xs2 zs2 (y, ys, code, codes, old) (n, ns, new_code, new_codes, new).
-        rows_by xs2 _ zs2 _ old new (by_images.exps.of_more_exps y n ys ns ((part_goals (level 0) value at e x inner (left_none x.losses xs.losses all) (λ u own. images value at e x u own (left_none x.losses xs.losses all))).0 _ _ y n code new_code) (row_images _ es xs rest (right_none x.losses xs.losses all) _ _ ys ns codes new_codes)))
+        subst (λ (z : Rewritten (tree.Exps A)). Row_to at (tree.more e es) z.tree) (sym is) (λ i xs2 zs2 (y, ys, code, codes, old) (n, ns, new_code, new_codes, new).
+        rows_by xs2 _ zs2 _ old new (by_images.exps.of_more_exps y n ys ns ((part_goals (level 0) value at e x inner (left_none x.losses xs.losses all) (λ u own. images value at e x u own (left_none x.losses xs.losses all))).0 _ y n code new_code) (row_images _ es xs rest (right_none x.losses xs.losses all) _ ys ns codes new_codes)))

@@ -125,7 +125,7 @@ module _ {A : Type 0} (tells : A → ℕ → Span) (last : A → ℕ → ℕ) (r
           let stand = begin.heads (field k) false in
           subst (λ (z : List StatementCode). Inits z ts) (sym old) (subst (λ (z : List StatementCode). Inits (stored begins last rows places (at_in begins last rows places (field k) (word_at begins m b w)) k x ∷ []) z) (sym n.2)
           (stored_pair _ _ x n.0 (exp_image tells last rows R super_at S parts At stands worlds keys D X by_images stmts no_rows casts spots size coded 0 c d stand (λ i l e2. absurd cc) (record { class = owner; locals = λ i l e2. absurd cc }) (λ l m2 small image. absurd (omega (arith, small))) (level 0) value
-          (begins m b) e y2 made2 lost2 _ _ x n.0 code (subst (λ (z : tree.Exp A). ExpCode begins (rows_in R) d (begins m b) z n.0) tree_same n.1))))
+          (begins m b) e y2 made2 lost2 _ x n.0 code (subst (λ (z : tree.Exp A). ExpCode begins (rows_in R) d (begins m b) z n.0) tree_same n.1))))
 
       statics : (s : Bool) → s ≡ true → InitBy begins last rows places s of b m w e ss → InitBy begins last (rows_in R) places' s of' b m v.tree y.tree ts → Inits ss ts
       statics true same old new = subst (λ (z : List StatementCode). Inits z ts) (sym old) (subst (λ (z : List StatementCode). Inits [] z) (sym new) tt)

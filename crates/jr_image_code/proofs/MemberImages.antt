@@ -105,9 +105,9 @@ module _ {A : Type 0} (tells : A → ℕ → Span) (last : A → ℕ → ℕ) (r
   -- the method's image is of the image of its class
   pub method_image : (k : MethodKey) → (method_in R k).class ≡ class_in R k.class → (j : ℕ) → IsRowOf rows (class_decl k.class) j → ((t : Ty) → Of t k.params → IsKnown rows t)
       → (base : ℕ) (m : A) (mods : List (syntax.Modifier A)) (t : Option (tree.TypeName A)) (w : tree.Word A) (ps : List (syntax.Param A)) (body : statement.Stmts A) → length ps + locals_in_row body ≤ size
-      → (o : Rewritten (syntax.Member A)) → TransformsMember tells Chosen S (member.method k) base (syntax.method m mods t w ps body) o → o.losses ≡ [] → (b i : ℕ) (x y : core.Method RunKeys)
-      → MethodCoded begins last rows places k b (syntax.method m mods t w ps body) x → MethodCoded begins last (rows_in R) places' (method_in R k) i o.tree y → MethodsTo X size x y
-  method_image k owner j row types base m mods t w ps body fits o (p, v, q, z, result, declared, params, made, is) none b i x y (s, code, old) new =
+      → (o : Rewritten (syntax.Member A)) → TransformsMember tells Chosen S (member.method k) base (syntax.method m mods t w ps body) o → o.losses ≡ [] → (i : ℕ) (x y : core.Method RunKeys)
+      → MethodCoded begins last rows places k base (syntax.method m mods t w ps body) x → MethodCoded begins last (rows_in R) places' (method_in R k) i o.tree y → MethodsTo X size x y
+  method_image k owner j row types base m mods t w ps body fits o (p, v, q, z, result, declared, params, made, is) none i x y (s, code, old) new =
       let whole_out = joined (λ (u : Option (tree.TypeName A) × tree.Word A) (x : List (syntax.Param A) × statement.Stmts A). syntax.method m mods u.0 u.1 x.0 x.1) (joined (λ u x. (u, x)) p v) (joined (λ u x. (u, x)) q z) in
       let all = lost_none o whole_out is none in
       let back = right_none (p.losses ++ v.losses) (q.losses ++ z.losses) all in
@@ -123,6 +123,6 @@ module _ {A : Type 0} (tells : A → ℕ → Span) (last : A → ℕ → ℕ) (r
             (list_images tells last rows R super_at S parts At stands worlds keys D X by_images stmts no_rows casts spots size coded (length ps) (length ps)
             (with_parameters (member.method k) (is_static_member begins mods) ps) (with_parameters (member_in R (member.method k)) (is_static_member begins mods) q.tree)
             (begin.parameters (member.method k) (is_static_member begins mods) _ ps q params)
-            (params_below size (member.method k) 0 ps k.params few) (place_of rows (member.method k) (is_static_member begins mods) ps (j, row) types) _ body z made (right_none q.losses z.losses back) fits _ _ s n.0 code
+            (params_below size (member.method k) 0 ps k.params few) (place_of rows (member.method k) (is_static_member begins mods) ps (j, row) types) _ body z made (right_none q.losses z.losses back) fits _ s n.0 code
             (subst (λ (l : ℕ). StmtsCode begins last (rows_in R) l (with_parameters (member_in R (member.method k)) (is_static_member begins mods) q.tree) ((tells m i).from) z.tree n.0) count n.1)),
       )

@@ -43,8 +43,8 @@ module _ {A : Type 0} (tells : A → ℕ → Span) (rows : List Row) (R : Region
   abbrev Local : tree.Exp A
   Local = receiver_name rows R c d m name o
 
-  abbrev Both : tree.Exp A → tree.Exp A → Type 0
-  Both e y = AreCoded (λ m b. (tells m b).from) rows R X c d e y
+  abbrev Both : (b : ℕ) → tree.Exp A → tree.Exp A → Type 0
+  Both b e y = AreCoded (λ m b. (tells m b).from) rows R X c d b e y
 
   -- its code reads the local
   local_code : (i : ℕ) (z : Code) → ExpCode (λ m b. (tells m b).from) (rows_in R) d i Local z → (q u : At RunKeys) × (z ≡ core.read q (core.local u k.number))
@@ -70,46 +70,46 @@ module _ {A : Type 0} (tells : A → ℕ → Span) (rows : List Row) (R : Region
 
   -- ---- fields
 
-  module _ (n : A) (v : tree.Word A) (q : FieldKey) (finds : FindsVariable rows (scope_of c) v.text (one (field_decl q))) (word : tree.Word A) where
+  module _ (b : ℕ) (n : A) (v : tree.Word A) (q : FieldKey) (finds : FindsVariable rows (scope_of c) v.text (one (field_decl q))) (word : tree.Word A) where
     field_target : (u : tree.Exp A) → (Each tells rows R c d w (IsOf tells rows R c d w Local) u ⊎ (IsInstanceDecl (rows_in R) (field_decl (field_in R q)) → ⊥))
-        → To tells rows R c d w (field_decl (field_in R q)) (tree.field m u word) → TargetsCoded (λ m b. (tells m b).from) rows R X c d (tree.name n v) (tree.field m u word)
+        → To tells rows R c d w (field_decl (field_in R q)) (tree.field m u word) → TargetsCoded (λ m b. (tells m b).from) rows R X c d b (tree.name n v) (tree.field m u word)
     unfolding TargetOf
-    field_target u (inl each) to b i t p old new = field_image tells rows R c d w r D X by_images q IsOwn _ _ _ t p (old_name tells rows R c d w r D X by_images locals n v q finds b t old)
+    field_target u (inl each) to i t p old new = field_image tells rows R c d w r D X by_images q IsOwn _ _ _ t p (old_name tells rows R c d w r D X by_images locals n v q finds b t old)
         (dotted_new tells rows R c d w (field_decl (field_in R q)) m u word to _ i p new) (λ has x z a code. let there = each _ z code in stands_for x z there.0 None a there.1)
-    field_target u (inr never) to b i t p old new = field_image tells rows R c d w r D X by_images q IsOwn (λ z. ⊥) _ _ t p (old_name tells rows R c d w r D X by_images locals n v q finds b t old)
+    field_target u (inr never) to i t p old new = field_image tells rows R c d w r D X by_images q IsOwn (λ z. ⊥) _ _ t p (old_name tells rows R c d w r D X by_images locals n v q finds b t old)
         (static_alone tells rows R c d w r D X by_images locals _ (field_in R q) _ p (dotted_new tells rows R c d w (field_decl (field_in R q)) m u word to _ i p new) never) (λ has x z a code. absurd code)
 
-    field_both : (z : Option (tree.Exp A)) → DottedForms tells rows R c d w (field_decl (field_in R q)) Local z → To tells rows R c d w (field_decl (field_in R q)) (variable_on m z word) → Both (tree.name n v) (variable_on m z word)
-    field_both z (u, is, form) to = subst (λ (x : Option (tree.Exp A)). Both (tree.name n v) (variable_on m x word)) (sym is)
+    field_both : (z : Option (tree.Exp A)) → DottedForms tells rows R c d w (field_decl (field_in R q)) Local z → To tells rows R c d w (field_decl (field_in R q)) (variable_on m z word) → Both b (tree.name n v) (variable_on m z word)
+    field_both z (u, is, form) to = subst (λ (x : Option (tree.Exp A)). Both b (tree.name n v) (variable_on m x word)) (sym is)
         (let target = field_target u form (subst (λ (x : Option (tree.Exp A)). To tells rows R c d w (field_decl (field_in R q)) (variable_on m x word)) is to) in
-        (value_goal tells rows R c d w r D X by_images locals (tree.name n v) (tree.field m u word) tt tt target, target))
+        (value_goal tells rows R c d w r D X by_images locals b (tree.name n v) (tree.field m u word) tt tt target, target))
 
-  field_images : (n : A) (v : tree.Word A) (y : tree.Exp A) (q : FieldKey) → FindsVariable rows (scope_of c) v.text (one (field_decl q)) → FieldOnReceiver rows R c d m name o (field_in R q) y → Both (tree.name n v) y
-  field_images n v y q finds (f, taken, is) = subst (λ (z : tree.Exp A). Both (tree.name n v) z) (sym is)
-      (field_both n v q finds (word_to (spelled (field_in R q).name (field_in R q).name (field_in R q).class f) (record { mark = m; text = (field_in R q).name })) _
+  field_images : (b : ℕ) (n : A) (v : tree.Word A) (y : tree.Exp A) (q : FieldKey) → FindsVariable rows (scope_of c) v.text (one (field_decl q)) → FieldOnReceiver rows R c d m name o (field_in R q) y → Both b (tree.name n v) y
+  field_images b n v y q finds (f, taken, is) = subst (λ (z : tree.Exp A). Both b (tree.name n v) z) (sym is)
+      (field_both b n v q finds (word_to (spelled (field_in R q).name (field_in R q).name (field_in R q).class f) (record { mark = m; text = (field_in R q).name })) _
       (value_front tells rows R c d w m m (field_in R q).name (field_in R q).name (field_decl (field_in R q)) (field_in R q).class Local o has_class taken.place f taken.stands
       (cast_above tells rows R c d w r D X by_images locals o ref.FieldOn (field_in R q).name [] (field_decl (field_in R q)) f taken.binds))
       (field_on_value (λ m b. (tells m b).from) (rows_in R) w.images.are w.one_new d w.new w.rebind w.fronts m m (field_in R q).name (field_in R q) Local o has_class no_name taken.place f taken.stands taken.binds))
 
   -- ---- calls
 
-  module _ (n : A) (v : tree.Word A) (args es : tree.Exps A) (row : RowGoal tells rows R c d w r D X by_images locals args es) (q : MethodKey) (finds : CallFinds rows c tree.no_target v.text args (one (method_decl q))) (word : tree.Word A) where
+  module _ (b : ℕ) (n : A) (v : tree.Word A) (args es : tree.Exps A) (row : RowGoal tells rows R c d w r D X by_images locals ((tells n b).from) args es) (q : MethodKey) (finds : CallFinds rows c tree.no_target v.text args (one (method_decl q))) (word : tree.Word A) where
     call_by : (z : Option (tree.Exp A)) → DottedForms tells rows R c d w (method_decl (method_in R q)) Local z → To tells rows R c d w (method_decl (method_in R q)) (tree.call m (target_of z) word es)
-        → ExpsCoded (λ m b. (tells m b).from) rows R X c d (tree.call n tree.no_target v args) (tree.call m (target_of z) word es)
+        → ExpsCoded (λ m b. (tells m b).from) rows R X c d b (tree.call n tree.no_target v args) (tree.call m (target_of z) word es)
     unfolding ReceiverCode
-    call_by z (u, is, form) to = subst (λ (x : Option (tree.Exp A)). ExpsCoded (λ m b. (tells m b).from) rows R X c d (tree.call n tree.no_target v args) (tree.call m (target_of x) word es)) (sym is)
-        (call_goal tells rows R c d w r D X by_images locals n m v word args es row q tree.no_target (tree.on u) finds
+    call_by z (u, is, form) to = subst (λ (x : Option (tree.Exp A)). ExpsCoded (λ m b. (tells m b).from) rows R X c d b (tree.call n tree.no_target v args) (tree.call m (target_of x) word es)) (sym is)
+        (call_goal tells rows R c d w r D X by_images locals b n m v word args es row q tree.no_target (tree.on u) finds
         (subst (λ (x : Option (tree.Exp A)). To tells rows R c d w (method_decl (method_in R q)) (tree.call m (target_of x) word es)) is to) (by form))
       where
         by : (Each tells rows R c d w (IsOf tells rows R c d w Local) u ⊎ (IsInstanceDecl (rows_in R) (method_decl (method_in R q)) → ⊥))
-            → (IsInstanceDecl rows (method_decl q) → ReceiverGoal tells rows R c d w r D X by_images locals tree.no_target (tree.on u)) ⊎ IsNever tells rows R c d w r D X by_images locals q
-        by (inl each) = inl (λ has b i x z a code. let there = each i z code in stands_for x z there.0 None a there.1)
+            → (IsInstanceDecl rows (method_decl q) → ReceiverGoal tells rows R c d w r D X by_images locals ((tells n b).from) tree.no_target (tree.on u)) ⊎ IsNever tells rows R c d w r D X by_images locals q
+        by (inl each) = inl (λ has i x z a code. let there = each i z code in stands_for x z there.0 None a there.1)
         by (inr never) = inr never
 
-  call_images : (n : A) (v : tree.Word A) (args es : tree.Exps A) → RowGoal tells rows R c d w r D X by_images locals args es → (y : tree.Exp A) (q : MethodKey) → CallFinds rows c tree.no_target v.text args (one (method_decl q))
-      → (ts : List Ty) → HaveTypes (rows_in R) d es ts → CallOnReceiver rows R c d m name o (method_in R q) ts es y → ExpsCoded (λ m b. (tells m b).from) rows R X c d (tree.call n tree.no_target v args) y
-  call_images n v args es row y q finds ts types (f, taken, is) = subst (λ (z : tree.Exp A). ExpsCoded (λ m b. (tells m b).from) rows R X c d (tree.call n tree.no_target v args) z) (sym is)
-      (call_by n v args es row q finds (word_to (spelled (method_in R q).name (method_in R q).name (method_in R q).class f) (record { mark = m; text = (method_in R q).name })) _
+  call_images : (b : ℕ) (n : A) (v : tree.Word A) (args es : tree.Exps A) → RowGoal tells rows R c d w r D X by_images locals ((tells n b).from) args es → (y : tree.Exp A) (q : MethodKey) → CallFinds rows c tree.no_target v.text args (one (method_decl q))
+      → (ts : List Ty) → HaveTypes (rows_in R) d es ts → CallOnReceiver rows R c d m name o (method_in R q) ts es y → ExpsCoded (λ m b. (tells m b).from) rows R X c d b (tree.call n tree.no_target v args) y
+  call_images b n v args es row y q finds ts types (f, taken, is) = subst (λ (z : tree.Exp A). ExpsCoded (λ m b. (tells m b).from) rows R X c d b (tree.call n tree.no_target v args) z) (sym is)
+      (call_by b n v args es row q finds (word_to (spelled (method_in R q).name (method_in R q).name (method_in R q).class f) (record { mark = m; text = (method_in R q).name })) _
       (value_front tells rows R c d w m m (method_in R q).name (method_in R q).name (method_decl (method_in R q)) (method_in R q).class Local o has_class taken.place f taken.stands
       (cast_above tells rows R c d w r D X by_images locals o ref.MethodOn (method_in R q).name ts (method_decl (method_in R q)) f taken.binds))
       (call_on_value (λ m b. (tells m b).from) (rows_in R) w.images.are w.one_new d w.new w.rebind w.fronts m m (method_in R q).name (method_in R q) es ts types Local o has_class no_name taken.place f taken.stands taken.binds))
@@ -122,30 +122,30 @@ module _ {A : Type 0} (tells : A → ℕ → Span) (rows : List Row) (R : Region
   HasArgs _ es = ⊥
 
   -- the code of the arguments of a call is related too
-  abbrev pub ArgsCoded : (e y : tree.Exp A) → Type 0
-  ArgsCoded (tree.call n to v args) y = (es : tree.Exps A) → HasArgs y es → RowGoal tells rows R c d w r D X by_images locals args es
-  ArgsCoded _ y = Unit {0}
+  abbrev pub ArgsCoded : (b : ℕ) (e y : tree.Exp A) → Type 0
+  ArgsCoded b (tree.call n to v args) y = (es : tree.Exps A) → HasArgs y es → RowGoal tells rows R c d w r D X by_images locals ((tells n b).from) args es
+  ArgsCoded b _ y = Unit {0}
 
-  pub receiver_images : (e y : tree.Exp A) → OnReceiver rows R c d m name o e y → ArgsCoded e y → Both e y
+  pub receiver_images : (b : ℕ) (e y : tree.Exp A) → OnReceiver rows R c d m name o e y → ArgsCoded b e y → Both b e y
   unfolding ExpCode TargetOf
-  receiver_images (tree.this n) y is args = subst (λ (z : tree.Exp A). Both (tree.this n) z) (sym is) ((λ b i x z old new. stands_for x z i (Some _) old new), (λ b i t u old new. absurd old))
-  receiver_images (tree.name n v) y (q, finds, on) args = field_images n v y q finds on
-  receiver_images (tree.call n tree.no_target v xs) y (q, ts, es, finds, types, (f, taken, is)) args =
-      (call_images n v xs es (args es (subst (λ (z : tree.Exp A). HasArgs z es) (sym is) refl)) y q finds ts types (f, taken, is), (λ b i t u old new. absurd old))
-  receiver_images (tree.call n (tree.on e) v xs) y h args = absurd h
-  receiver_images (tree.number n i) y h args = absurd h
-  receiver_images (tree.truth n b) y h args = absurd h
-  receiver_images (tree.null n) y h args = absurd h
-  receiver_images (tree.string n t) y h args = absurd h
-  receiver_images (tree.class_literal n t) y h args = absurd h
-  receiver_images (tree.field n e v) y h args = absurd h
-  receiver_images (tree.super_field n v) y h args = absurd h
-  receiver_images (tree.super_call n v xs) y h args = absurd h
-  receiver_images (tree.create n t xs) y h args = absurd h
-  receiver_images (tree.paren n e) y h args = absurd h
-  receiver_images (tree.cast n t e) y h args = absurd h
-  receiver_images (tree.unary n p e) y h args = absurd h
-  receiver_images (tree.bump n p e) y h args = absurd h
-  receiver_images (tree.binary n p e f) y h args = absurd h
-  receiver_images (tree.assign n e f) y h args = absurd h
-  receiver_images (tree.compound n p e f) y h args = absurd h
+  receiver_images b (tree.this n) y is args = subst (λ (z : tree.Exp A). Both b (tree.this n) z) (sym is) ((λ i x z old new. stands_for x z i (Some _) old new), (λ i t u old new. absurd old))
+  receiver_images b (tree.name n v) y (q, finds, on) args = field_images b n v y q finds on
+  receiver_images b (tree.call n tree.no_target v xs) y (q, ts, es, finds, types, (f, taken, is)) args =
+      (call_images b n v xs es (args es (subst (λ (z : tree.Exp A). HasArgs z es) (sym is) refl)) y q finds ts types (f, taken, is), (λ i t u old new. absurd old))
+  receiver_images b (tree.call n (tree.on e) v xs) y h args = absurd h
+  receiver_images b (tree.number n i) y h args = absurd h
+  receiver_images b (tree.truth n t) y h args = absurd h
+  receiver_images b (tree.null n) y h args = absurd h
+  receiver_images b (tree.string n t) y h args = absurd h
+  receiver_images b (tree.class_literal n t) y h args = absurd h
+  receiver_images b (tree.field n e v) y h args = absurd h
+  receiver_images b (tree.super_field n v) y h args = absurd h
+  receiver_images b (tree.super_call n v xs) y h args = absurd h
+  receiver_images b (tree.create n t xs) y h args = absurd h
+  receiver_images b (tree.paren n e) y h args = absurd h
+  receiver_images b (tree.cast n t e) y h args = absurd h
+  receiver_images b (tree.unary n p e) y h args = absurd h
+  receiver_images b (tree.bump n p e) y h args = absurd h
+  receiver_images b (tree.binary n p e f) y h args = absurd h
+  receiver_images b (tree.assign n e f) y h args = absurd h
+  receiver_images b (tree.compound n p e f) y h args = absurd h

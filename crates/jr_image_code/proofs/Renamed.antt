@@ -52,7 +52,7 @@ no_spots begins rows g X own free = record {
   on_this = λ k c r base e stays h. own;
   written = λ c base e k stays h. free k.number;
   parts = λ k c d r b e i y h stand. absurd h;
-  targets = λ c d b e i y h stand j t code. absurd h;
+  targets = λ c d b e i y h stand t code. absurd h;
 }
 
 module _ {A : Type 0} (tells : A → ℕ → Span) (rows : List Row) (g : Renaming) (fair : IsFair rows g) (c d : Context) (stand : ContextTo g rows c d) (w : World A rows g c d)
@@ -69,8 +69,8 @@ module _ {A : Type 0} (tells : A → ℕ → Span) (rows : List Row) (g : Renami
   locals k m name finds image = (let same : local_to g k ≡ m = cc in ((in_upto size k.number (below k name finds), refl), ap (λ (l : LocalKey). l.number) (sym same)))
 
   pub renamed_images : (role : Role) (base : ℕ) (e : tree.Exp A) (o : Rewritten (tree.Exp A)) → RewritesExp tells (spelling (λ m b. (tells m b).from) rows g super_at) c role base e o → o.losses ≡ []
-      → (b i : ℕ) (x z : Code) → ExpCode (λ m b. (tells m b).from) rows c b e x → ExpCode (λ m b. (tells m b).from) (rows_to g rows) d i o.tree z → (B : NumberSet) × ExpTo r D (whole size (λ n. n)).code everything x z B
-  renamed_images role base e o made none b i x z old new =
+      → (i : ℕ) (x z : Code) → ExpCode (λ m b. (tells m b).from) rows c base e x → ExpCode (λ m b. (tells m b).from) (rows_to g rows) d i o.tree z → (B : NumberSet) × ExpTo r D (whole size (λ n. n)).code everything x z B
+  renamed_images role base e o made none i x z old new =
       let image = (images tells rows (region_of rows g) c d (world_of rows g c d stand fair w) r D All goes locals casts super_at nowhere refl (no_spots (λ m b. (tells m b).from) rows g All refl (λ n h. h))
-      role base e o made (λ h. refl) none).0 b i x z old new everything (within_itself everything) in
+      role base e o made (λ h. refl) none).0 i x z old new everything (within_itself everything) in
       (image.0, image.2)

@@ -64,18 +64,18 @@ module _ {A : Type 0} (tells : A → ℕ → Span) (rows : List Row) (R : Region
   abbrev at_mark : A → ℕ → ℕ
   at_mark m b = (tells m b).from
 
-  abbrev pub ExpGoal : tree.Exp A → tree.Exp A → Type 0
-  ExpGoal e y = ExpsCoded (λ m b. (tells m b).from) rows R X c d e y
+  abbrev pub ExpGoal : (b : ℕ) → tree.Exp A → tree.Exp A → Type 0
+  ExpGoal b e y = ExpsCoded (λ m b. (tells m b).from) rows R X c d b e y
 
-  abbrev pub TargetGoal : tree.Exp A → tree.Exp A → Type 0
-  TargetGoal e y = TargetsCoded (λ m b. (tells m b).from) rows R X c d e y
+  abbrev pub TargetGoal : (b : ℕ) → tree.Exp A → tree.Exp A → Type 0
+  TargetGoal b e y = TargetsCoded (λ m b. (tells m b).from) rows R X c d b e y
 
   -- as a value it is read
-  pub value_goal : (e y : tree.Exp A) → IsVariable e → IsVariable y → TargetGoal e y → ExpGoal e y
-  value_goal e y ok fine goal b i x z old new =
+  pub value_goal : (b : ℕ) (e y : tree.Exp A) → IsVariable e → IsVariable y → TargetGoal b e y → ExpGoal b e y
+  value_goal b e y ok fine goal i x z old new =
       let a = reads (λ m b. (tells m b).from) rows c b e ok x old in
       let n = reads (λ m b. (tells m b).from) (rows_in R) d i y fine z new in
-      exps_by tells rows R c d w r D X by_images x (core.read a.0 a.1) z (core.read n.0 n.1) a.3 n.3 (by_images.exps.of_read a.0 n.0 a.1 n.1 (goal b i a.1 n.1 a.2 n.2))
+      exps_by tells rows R c d w r D X by_images x (core.read a.0 a.1) z (core.read n.0 n.1) a.3 n.3 (by_images.exps.of_read a.0 n.0 a.1 n.1 (goal i a.1 n.1 a.2 n.2))
 
   pub own_pair : X.own → (x z : Code) → IsOwn x → IsOwn z → X.exp x z
   own_pair own x z a b = exps_by tells rows R c d w r D X by_images x (core.this None) z (core.this None) a b (by_images.exps.of_this own None None)
@@ -125,11 +125,11 @@ module _ {A : Type 0} (tells : A → ℕ → Span) (rows : List Row) (R : Region
   own_shape k y (inr (inr (inr (m, e, v, is, never)))) = subst (λ (z : tree.Exp A). IsVariable z) (sym is) tt
 
   -- both: as a value, and as a target
-  abbrev pub Goals : tree.Exp A → tree.Exp A → Type 0
-  Goals e y = ExpGoal e y × TargetGoal e y
+  abbrev pub Goals : (b : ℕ) → tree.Exp A → tree.Exp A → Type 0
+  Goals b e y = ExpGoal b e y × TargetGoal b e y
 
-  goals : (e y : tree.Exp A) → IsVariable e → IsVariable y → TargetGoal e y → Goals e y
-  goals e y ok fine goal = (value_goal e y ok fine goal, goal)
+  goals : (b : ℕ) (e y : tree.Exp A) → IsVariable e → IsVariable y → TargetGoal b e y → Goals b e y
+  goals b e y ok fine goal = (value_goal b e y ok fine goal, goal)
 
   -- ---- simple names
 
@@ -139,17 +139,17 @@ module _ {A : Type 0} (tells : A → ℕ → Span) (rows : List Row) (R : Region
   old_name m v k finds b t (x, found, code) = subst (λ (z : Decl). VariableCode rows z (place (λ m b. (tells m b).from) rows c (word_at (λ m b. (tells m b).from) m b v)) t)
       (one_decl x (field_decl k) (w.one_old.variable (scope_of c) v.text (one x) (one (field_decl k)) found finds)) code
 
-  module _ (m : A) (v : tree.Word A) (at : ℕ) (h : Choice) (none : losses_of h ≡ []) where
+  module _ (base : ℕ) (m : A) (v : tree.Word A) (at : ℕ) (h : Choice) (none : losses_of h ≡ []) where
     abbrev NewName : Choice → tree.Exp A
     NewName x = variable_to m (front_of x) None (word_to x v)
 
     local_named : (k j : LocalKey) (new : List ℕ) → R.seen.local_to c k ≡ Some j → FindsVariable rows (scope_of c) v.text (one (local_decl k)) → FindsVariable (rows_in R) (scope_of d) new (one (local_decl j))
-        → Goals (tree.name m v) (tree.name m (record { mark = v.mark; text = new }))
+        → Goals base (tree.name m v) (tree.name m (record { mark = v.mark; text = new }))
     unfolding TargetOf
-    local_named k j new image finds found = goals (tree.name m v) (tree.name m (record { mark = v.mark; text = new })) tt tt (λ b i t u (x, old, a) (y, other, n).
+    local_named k j new image finds found = goals base (tree.name m v) (tree.name m (record { mark = v.mark; text = new })) tt tt (λ i t u (x, old, a) (y, other, n).
         let one_old : x ≡ local_decl k = one_decl x (local_decl k) (w.one_old.variable (scope_of c) v.text (one x) (one (local_decl k)) old finds) in
         let one_new : y ≡ local_decl j = one_decl y (local_decl j) (w.one_new.variable (scope_of d) new (one y) (one (local_decl j)) other found) in
-        let p = place (λ m b. (tells m b).from) rows c (word_at (λ m b. (tells m b).from) m b v) in
+        let p = place (λ m b. (tells m b).from) rows c (word_at (λ m b. (tells m b).from) m base v) in
         let q = place (λ m b. (tells m b).from) (rows_in R) d (word_at (λ m b. (tells m b).from) m i v) in
         let stays = locals k j v.text finds image in
         let is : t ≡ core.local (Some p) k.number = subst (λ (z : Decl). VariableCode rows z p t) one_old a in
@@ -157,7 +157,7 @@ module _ {A : Type 0} (tells : A → ℕ → Span) (rows : List Row) (R : Region
         subst (λ (z : TargetCode). X.target z u) (sym is) (subst (λ (z : TargetCode). X.target (core.local (Some p) k.number) z) (sym (was ∙ ap (core.local (Some q)) stays.1))
         (by_images.exps.of_local (Some p) (Some q) k.number stays.0)))
 
-    pub local_goals : (k : LocalKey) → LocalChoice (λ m b. (tells m b).from) rows R c at v.text k h → Goals (tree.name m v) (NewName h)
+    pub local_goals : (k : LocalKey) → LocalChoice (λ m b. (tells m b).from) rows R c at v.text k h → Goals base (tree.name m v) (NewName h)
     local_goals k (finds, choice) = by (R.seen.local_to c k) refl choice
       where
         asked : Reference
@@ -169,19 +169,19 @@ module _ {A : Type 0} (tells : A → ℕ → Span) (rows : List Row) (R : Region
         Stays : LocalKey → Type 0
         Stays j = TakenChoice (λ m b. (tells m b).from) rows R (scope_in R c) at v.text (name_in R (local_decl k) v.text) (local_decl k) (local_decl j) asked (FindsVariable (rows_in R) (scope_in R c) (name_in R (local_decl k) v.text)) h
 
-        by : (o : Option LocalKey) → R.seen.local_to c k ≡ o → OfImage o Stays Gone → Goals (tree.name m v) (NewName h)
+        by : (o : Option LocalKey) → R.seen.local_to c k ≡ o → OfImage o Stays Gone → Goals base (tree.name m v) (NewName h)
         by None image (f, found, is) = absurd (lost_some _ (sym (ap losses_of is) ∙ none))
         by (Some j) image (inr (none_binds, (f, found, is))) = absurd (lost_some _ (sym (ap losses_of is) ∙ none))
-        by (Some j) image (inl (f, taken, is)) = subst (λ (x : Choice). Goals (tree.name m v) (NewName x)) (sym is)
-            (one_form (λ f. Binds (rows_in R) (scope_of d) asked (local_decl j) f → Goals (tree.name m v) (NewName (spelled v.text (name_in R (local_decl k) v.text) (class_of (local_decl j)) f)))
-            (λ binds. subst (λ (y : tree.Exp A). Goals (tree.name m v) y) (sym (with_name (λ front z. variable_to m front None z) v.text (name_in R (local_decl k) v.text) v.mark))
+        by (Some j) image (inl (f, taken, is)) = subst (λ (x : Choice). Goals base (tree.name m v) (NewName x)) (sym is)
+            (one_form (λ f. Binds (rows_in R) (scope_of d) asked (local_decl j) f → Goals base (tree.name m v) (NewName (spelled v.text (name_in R (local_decl k) v.text) (class_of (local_decl j)) f)))
+            (λ binds. subst (λ (y : tree.Exp A). Goals base (tree.name m v) y) (sym (with_name (λ front z. variable_to m front None z) v.text (name_in R (local_decl k) v.text) v.mark))
             (local_named k j (name_in R (local_decl k) v.text) image finds binds))
             taken.place f taken.stands (to_scope tells rows R c d w asked (local_decl j) f taken.binds))
 
-    pub own_field_goals : (IsOnThis rows c (tree.name m v) → X.own) → (k : FieldKey) → OwnFieldChoice (λ m b. (tells m b).from) rows R c at v.text k h → Goals (tree.name m v) (NewName h)
+    pub own_field_goals : (IsOnThis rows c (tree.name m v) → X.own) → (k : FieldKey) → OwnFieldChoice (λ m b. (tells m b).from) rows R c at v.text k h → Goals base (tree.name m v) (NewName h)
     unfolding TargetOf
-    own_field_goals on_this k (finds, inl (f, taken, is)) = subst (λ (x : Choice). Goals (tree.name m v) (NewName x)) (sym is) (goals (tree.name m v) (NewName (spelled v.text (field_in R k).name (field_in R k).class f)) tt (own_shape (field_in R k) _ forms)
-        (λ b i t u old new. own_target k (λ has. on_this (k, finds, has)) _ t (old_name m v k finds b t old) i u _ forms (simple_field (λ m b. (tells m b).from) (rows_in R) w.images.are w.one_new d w.new w.rebind w.fronts m v.mark v.text (field_in R k) taken.place f taken.stands binds) new))
+    own_field_goals on_this k (finds, inl (f, taken, is)) = subst (λ (x : Choice). Goals base (tree.name m v) (NewName x)) (sym is) (goals base (tree.name m v) (NewName (spelled v.text (field_in R k).name (field_in R k).class f)) tt (own_shape (field_in R k) _ forms)
+        (λ i t u old new. own_target k (λ has. on_this (k, finds, has)) _ t (old_name m v k finds base t old) i u _ forms (simple_field (λ m b. (tells m b).from) (rows_in R) w.images.are w.one_new d w.new w.rebind w.fronts m v.mark v.text (field_in R k) taken.place f taken.stands binds) new))
       where
         binds : Binds (rows_in R) (scope_of d) (reference ref.FieldSimple (field_in R k).name None []) (field_decl (field_in R k)) f
         binds = to_scope tells rows R c d w (reference ref.FieldSimple (field_in R k).name None []) (field_decl (field_in R k)) f taken.binds
@@ -191,11 +191,11 @@ module _ {A : Type 0} (tells : A → ℕ → Span) (rows : List Row) (R : Region
     own_field_goals on_this k (finds, inr (none_binds, (f, found, is))) = absurd (lost_some _ (sym (ap losses_of is) ∙ none))
 
     -- a class has no code
-    pub class_goals : (o : Role) → ClassChoice (λ m b. (tells m b).from) rows R c o at v.text h → (y : tree.Exp A) → Goals (tree.name m v) y
+    pub class_goals : (o : Role) → ClassChoice (λ m b. (tells m b).from) rows R c o at v.text h → (y : tree.Exp A) → Goals base (tree.name m v) y
     unfolding ExpCode TargetOf
     class_goals left (k, free, finds, words, stands, spells) y = (
-      λ b i x z (t, (q, found, code), is) new. absurd (not_nothing q (w.one_old.variable (scope_of c) v.text (one q) nothing found free)),
-      λ b i t u (q, found, code) new. absurd (not_nothing q (w.one_old.variable (scope_of c) v.text (one q) nothing found free)),
+      λ i x z (t, (q, found, code), is) new. absurd (not_nothing q (w.one_old.variable (scope_of c) v.text (one q) nothing found free)),
+      λ i t u (q, found, code) new. absurd (not_nothing q (w.one_old.variable (scope_of c) v.text (one q) nothing found free)),
     )
     class_goals value spells y = absurd spells
     class_goals statement spells y = absurd spells
@@ -210,10 +210,10 @@ module _ {A : Type 0} (tells : A → ℕ → Span) (rows : List Row) (R : Region
     old_super k finds b t (x, found, code) = subst (λ (z : Decl). FieldCode rows IsOwn z (place (λ m b. (tells m b).from) rows c (word_at (λ m b. (tells m b).from) m b v)) t)
         (decided_one _ (SuperFieldFinds rows c v.text) (w.old.super_fields v.text) x (field_decl k) found finds) code
 
-    pub super_field_goals : (IsOnThis rows c (tree.super_field m v) → X.own) → SuperFieldChoice (λ m b. (tells m b).from) rows R c at v.text h → Goals (tree.super_field m v) (NewSuper h)
+    pub super_field_goals : (IsOnThis rows c (tree.super_field m v) → X.own) → SuperFieldChoice (λ m b. (tells m b).from) rows R c at v.text h → Goals base (tree.super_field m v) (NewSuper h)
     unfolding TargetOf
-    super_field_goals on_this (k, finds, inl (f, taken, is)) = subst (λ (x : Choice). Goals (tree.super_field m v) (NewSuper x)) (sym is) (goals (tree.super_field m v) (NewSuper (spelled v.text (field_in R k).name (field_in R k).class f)) tt (own_shape (field_in R k) _ forms)
-        (λ b i t u old new. own_target k (λ has. on_this (k, finds, has)) _ t (old_super k finds b t old) i u _ forms (field_by_super (λ m b. (tells m b).from) (rows_in R) w.images.are w.one_new d w.new w.rebind w.fronts m v.mark v.text (field_in R k) taken.place f taken.stands binds) new))
+    super_field_goals on_this (k, finds, inl (f, taken, is)) = subst (λ (x : Choice). Goals base (tree.super_field m v) (NewSuper x)) (sym is) (goals base (tree.super_field m v) (NewSuper (spelled v.text (field_in R k).name (field_in R k).class f)) tt (own_shape (field_in R k) _ forms)
+        (λ i t u old new. own_target k (λ has. on_this (k, finds, has)) _ t (old_super k finds base t old) i u _ forms (field_by_super (λ m b. (tells m b).from) (rows_in R) w.images.are w.one_new d w.new w.rebind w.fronts m v.mark v.text (field_in R k) taken.place f taken.stands binds) new))
       where
         binds : Binds (rows_in R) (scope_of d) (reference ref.FieldSuper (field_in R k).name None []) (field_decl (field_in R k)) f
         binds = to_scope tells rows R c d w (reference ref.FieldSuper (field_in R k).name None []) (field_decl (field_in R k)) f taken.binds
@@ -265,8 +265,8 @@ module _ {A : Type 0} (tells : A → ℕ → Span) (rows : List Row) (R : Region
   pub class_outer : (r2 : Reference) (x : Decl) (f : Form) → Binds (rows_in R) (scope_of d) r2 x f → f ≡ OnOuterClass → (o : List ℕ) × ((class_of x).outer ≡ Some o)
   class_outer r2 x f binds is = let b = subst (λ (z : Form). Binds (rows_in R) (scope_of d) r2 x z) is binds in (b.0, b.1)
 
-  module _ (m : A) (e y : tree.Exp A) (v : tree.Word A) (at : ℕ) (h : Choice) (none : losses_of h ≡ [])
-      (holds : drops_operand (front_of h) ≡ false → Becomes (λ m b. (tells m b).from) rows R c d e y × ExpGoal e y) where
+  module _ (base : ℕ) (m : A) (e y : tree.Exp A) (v : tree.Word A) (at : ℕ) (h : Choice) (none : losses_of h ≡ [])
+      (holds : drops_operand (front_of h) ≡ false → Becomes (λ m b. (tells m b).from) rows R c d e y × ExpGoal ((tells m base).from) e y) where
     abbrev NewField : Choice → tree.Exp A
     NewField x = variable_on m (operand_to m (front_of x) (Some y)) (word_to x v)
 
@@ -281,23 +281,23 @@ module _ {A : Type 0} (tells : A → ℕ → Span) (rows : List Row) (R : Region
 
     module _ (k : FieldKey) (finds : FieldFinds rows c e v.text (one (field_decl k))) (word : tree.Word A) where
       -- the operand stands there yet
-      on_value : ExpGoal e y → (u : tree.Exp A) → Each tells rows R c d w (IsOf tells rows R c d w y) u → To tells rows R c d w (field_decl (field_in R k)) (tree.field m u word) → TargetGoal (tree.field m e v) (tree.field m u word)
+      on_value : ExpGoal ((tells m base).from) e y → (u : tree.Exp A) → Each tells rows R c d w (IsOf tells rows R c d w y) u → To tells rows R c d w (field_decl (field_in R k)) (tree.field m u word) → TargetGoal base (tree.field m e v) (tree.field m u word)
       unfolding TargetOf
-      on_value goal u each to b i t q old new = field_image tells rows R c d w r D X by_images k _ _ _ _ t q (old_field k finds b t old) (dotted_new tells rows R c d w (field_decl (field_in R k)) m u word to _ i q new)
-          (λ has x z a n. let there = each _ z n in goal _ there.0 x z a there.1)
+      on_value goal u each to i t q old new = field_image tells rows R c d w r D X by_images k _ _ _ _ t q (old_field k finds base t old) (dotted_new tells rows R c d w (field_decl (field_in R k)) m u word to _ i q new)
+          (λ has x z a n. let there = each _ z n in goal there.0 x z a there.1)
 
-      on_class : (IsInstanceDecl (rows_in R) (field_decl (field_in R k)) → ⊥) → (u : tree.Exp A) → To tells rows R c d w (field_decl (field_in R k)) (tree.field m u word) → TargetGoal (tree.field m e v) (tree.field m u word)
+      on_class : (IsInstanceDecl (rows_in R) (field_decl (field_in R k)) → ⊥) → (u : tree.Exp A) → To tells rows R c d w (field_decl (field_in R k)) (tree.field m u word) → TargetGoal base (tree.field m e v) (tree.field m u word)
       unfolding TargetOf
-      on_class never u to b i t q old new = field_image tells rows R c d w r D X by_images k _ (λ z. ⊥) _ _ t q (old_field k finds b t old)
+      on_class never u to i t q old new = field_image tells rows R c d w r D X by_images k _ (λ z. ⊥) _ _ t q (old_field k finds base t old)
           (static_alone _ (field_in R k) _ q (dotted_new tells rows R c d w (field_decl (field_in R k)) m u word to _ i q new) never) (λ has x z a n. absurd n)
 
-      dotted_target : (z : Option (tree.Exp A)) → (ExpGoal e y ⊎ (IsInstanceDecl (rows_in R) (field_decl (field_in R k)) → ⊥)) → DottedForms tells rows R c d w (field_decl (field_in R k)) y z
-          → To tells rows R c d w (field_decl (field_in R k)) (variable_on m z word) → Goals (tree.field m e v) (variable_on m z word)
-      dotted_target z how (u, is, form) to = subst (λ (q : Option (tree.Exp A)). Goals (tree.field m e v) (variable_on m q word)) (sym is) (goals (tree.field m e v) (tree.field m u word) tt tt
+      dotted_target : (z : Option (tree.Exp A)) → (ExpGoal ((tells m base).from) e y ⊎ (IsInstanceDecl (rows_in R) (field_decl (field_in R k)) → ⊥)) → DottedForms tells rows R c d w (field_decl (field_in R k)) y z
+          → To tells rows R c d w (field_decl (field_in R k)) (variable_on m z word) → Goals base (tree.field m e v) (variable_on m z word)
+      dotted_target z how (u, is, form) to = subst (λ (q : Option (tree.Exp A)). Goals base (tree.field m e v) (variable_on m q word)) (sym is) (goals base (tree.field m e v) (tree.field m u word) tt tt
           (by how form (subst (λ (q : Option (tree.Exp A)). To tells rows R c d w (field_decl (field_in R k)) (variable_on m q word)) is to)))
         where
-          by : (ExpGoal e y ⊎ (IsInstanceDecl (rows_in R) (field_decl (field_in R k)) → ⊥)) → (Each tells rows R c d w (IsOf tells rows R c d w y) u ⊎ (IsInstanceDecl (rows_in R) (field_decl (field_in R k)) → ⊥))
-              → To tells rows R c d w (field_decl (field_in R k)) (tree.field m u word) → TargetGoal (tree.field m e v) (tree.field m u word)
+          by : (ExpGoal ((tells m base).from) e y ⊎ (IsInstanceDecl (rows_in R) (field_decl (field_in R k)) → ⊥)) → (Each tells rows R c d w (IsOf tells rows R c d w y) u ⊎ (IsInstanceDecl (rows_in R) (field_decl (field_in R k)) → ⊥))
+              → To tells rows R c d w (field_decl (field_in R k)) (tree.field m u word) → TargetGoal base (tree.field m e v) (tree.field m u word)
           by (inr never) form to = on_class never u to
           by (inl goal) (inr never) to = on_class never u to
           by (inl goal) (inl each) to = on_value goal u each to
@@ -305,7 +305,7 @@ module _ {A : Type 0} (tells : A → ℕ → Span) (rows : List Row) (R : Region
     value_field : (k : FieldKey) → FieldFinds rows c e v.text (one (field_decl k)) → ((j : ClassKey) → IsClassName rows c e j → ⊥) → (o : ClassKey) → HasType rows c e (class o)
         → (n : ℕ) (f : Form) → slice_get (Asked ∷ OnCastOperand ∷ []) n ≡ Some f
         → Binds (rows_in R) (scope_of d) (reference ref.FieldOn (field_in R k).name (on_type (R.type_now c e (class o))) []) (field_decl (field_in R k)) f
-        → h ≡ spelled v.text (field_in R k).name (field_in R k).class f → Goals (tree.field m e v) (NewField (spelled v.text (field_in R k).name (field_in R k).class f))
+        → h ≡ spelled v.text (field_in R k).name (field_in R k).class f → Goals base (tree.field m e v) (NewField (spelled v.text (field_in R k).name (field_in R k).class f))
     value_field k finds not o type n f there binds is =
         let part = holds (ap (λ (q : Choice). drops_operand (front_of q)) is ∙ value_holds v.text (field_in R k).name (field_in R k).class n f there) in
         let of = field_class (field_in R k).name (R.type_now c e (class o)) (field_decl (field_in R k)) n f there binds in
@@ -319,7 +319,7 @@ module _ {A : Type 0} (tells : A → ℕ → Span) (rows : List Row) (R : Region
     class_field : (k : FieldKey) → FieldFinds rows c e v.text (one (field_decl k)) → (o : ClassKey) → IsClassName rows c e o → (words : InFront)
         → (n : ℕ) (f : Form) → slice_get (Asked ∷ OnClass ∷ OnOuterClass ∷ []) n ≡ Some f
         → Binds (rows_in R) (scope_of d) (behind_words words (reference ref.ThroughClass (field_in R k).name (operand_of (class_in R o)) [])) (field_decl (field_in R k)) f
-        → h ≡ spelled v.text (field_in R k).name (field_in R k).class f → Goals (tree.field m e v) (NewField (spelled v.text (field_in R k).name (field_in R k).class f))
+        → h ≡ spelled v.text (field_in R k).name (field_in R k).class f → Goals base (tree.field m e v) (NewField (spelled v.text (field_in R k).name (field_in R k).class f))
     class_field k finds o named words n f there binds is =
         let never = class_static (class_in R o) words (field_in R k).name [] (field_decl (field_in R k)) n f there binds in
         dotted_target k finds (word_to (spelled v.text (field_in R k).name (field_in R k).class f) v) (operand_to m (front_of (spelled v.text (field_in R k).name (field_in R k).class f)) (Some y)) (inr never)
@@ -328,12 +328,12 @@ module _ {A : Type 0} (tells : A → ℕ → Span) (rows : List Row) (R : Region
         (field_through (λ m b. (tells m b).from) (rows_in R) w.images.are w.one_new d w.new w.rebind w.fronts m v.mark v.text (field_in R k) y (class_in R o) words n f there
         (λ asked. (holds (ap (λ (q : Choice). drops_operand (front_of q)) (is ∙ ap (spelled v.text (field_in R k).name (field_in R k).class) asked) ∙ renamed_holds v.text (field_in R k).name)).0.named o named) binds)
 
-    pub field_goals : FieldChoice (λ m b. (tells m b).from) rows R c at e v.text h → Goals (tree.field m e v) (NewField h)
-    field_goals (k, finds, inl (o, named, (words, stand, inl (f, taken, is)))) = subst (λ (x : Choice). Goals (tree.field m e v) (NewField x)) (sym is)
+    pub field_goals : FieldChoice (λ m b. (tells m b).from) rows R c at e v.text h → Goals base (tree.field m e v) (NewField h)
+    field_goals (k, finds, inl (o, named, (words, stand, inl (f, taken, is)))) = subst (λ (x : Choice). Goals base (tree.field m e v) (NewField x)) (sym is)
         (class_field k finds o named words taken.place f taken.stands
         (to_scope tells rows R c d w (behind_words words (reference ref.ThroughClass (field_in R k).name (operand_of (class_in R o)) [])) (field_decl (field_in R k)) f taken.binds) is)
     field_goals (k, finds, inl (o, named, (words, stand, inr (none_binds, (f, found, is))))) = absurd (lost_some _ (sym (ap losses_of is) ∙ none))
-    field_goals (k, finds, inr (not, (o, type, inl (f, taken, is)))) = subst (λ (x : Choice). Goals (tree.field m e v) (NewField x)) (sym is)
+    field_goals (k, finds, inr (not, (o, type, inl (f, taken, is)))) = subst (λ (x : Choice). Goals base (tree.field m e v) (NewField x)) (sym is)
         (value_field k finds not o type taken.place f taken.stands
         (to_scope tells rows R c d w (reference ref.FieldOn (field_in R k).name (on_type (R.type_now c e (class o))) []) (field_decl (field_in R k)) f taken.binds) is)
     field_goals (k, finds, inr (not, (o, type, inr (none_binds, (f, found, is))))) = absurd (lost_some _ (sym (ap losses_of is) ∙ none))
@@ -345,11 +345,11 @@ module _ {A : Type 0} (tells : A → ℕ → Span) (rows : List Row) (R : Region
     no_member_class o owner free x (inl (i, inr (not, type), found)) = not o owner
     no_member_class o owner free x (inr (not, is)) = not_nothing x is
 
-    pub member_class_goals : (o : Role) → MemberClassChoice (λ m b. (tells m b).from) rows R c o at e v.text h → (z : tree.Exp A) → Goals (tree.field m e v) z
+    pub member_class_goals : (o : Role) → MemberClassChoice (λ m b. (tells m b).from) rows R c o at e v.text h → (z : tree.Exp A) → Goals base (tree.field m e v) z
     unfolding ExpCode TargetOf
     member_class_goals left (o, k, owner, free, finds, front, before, words, stands, spells) z = (
-      λ b i x q (t, (n, found, code), is) new. absurd (no_member_class o owner free n found),
-      λ b i t u (n, found, code) new. absurd (no_member_class o owner free n found),
+      λ i x q (t, (n, found, code), is) new. absurd (no_member_class o owner free n found),
+      λ i t u (n, found, code) new. absurd (no_member_class o owner free n found),
     )
     member_class_goals value spells z = absurd spells
     member_class_goals statement spells z = absurd spells

@@ -90,18 +90,18 @@ IsLocal rows c (tree.name m w) k = FindsVariable rows (scope_of c) w.text (one (
 IsLocal rows c _ k = ⊥
 
 module _ {A : Type 0} (begins : A → ℕ → ℕ) (rows : List Row) (R : Region A) (X : Relations) where
-  -- the code of what stands now in an expression's place is related to that of the expression, as a
-  -- value and as a variable
-  abbrev pub ExpsCoded : (c d : Context) → tree.Exp A → tree.Exp A → Type 0
-  ExpsCoded c d e y = (b i : ℕ) (x z : Code) → ExpCode begins rows c b e x
+  -- the code of what stands now in an expression's place, wherever it stands, is related to that of
+  -- the expression where it stood, whose parent began at b: as a value and as a variable
+  abbrev pub ExpsCoded : (c d : Context) → (b : ℕ) → tree.Exp A → tree.Exp A → Type 0
+  ExpsCoded c d b e y = (i : ℕ) (x z : Code) → ExpCode begins rows c b e x
       → ExpCode begins (rows_in R) d i y z → X.exp x z
 
-  abbrev pub TargetsCoded : (c d : Context) → tree.Exp A → tree.Exp A → Type 0
-  TargetsCoded c d e y = (b i : ℕ) (t u : TargetCode) → TargetOf begins rows c b e t
+  abbrev pub TargetsCoded : (c d : Context) → (b : ℕ) → tree.Exp A → tree.Exp A → Type 0
+  TargetsCoded c d b e y = (i : ℕ) (t u : TargetCode) → TargetOf begins rows c b e t
       → TargetOf begins (rows_in R) d i y u → X.target t u
 
-  abbrev pub AreCoded : (c d : Context) → tree.Exp A → tree.Exp A → Type 0
-  AreCoded c d e y = ExpsCoded c d e y × TargetsCoded c d e y
+  abbrev pub AreCoded : (c d : Context) → (b : ℕ) → tree.Exp A → tree.Exp A → Type 0
+  AreCoded c d b e y = ExpsCoded c d b e y × TargetsCoded c d b e y
 
   -- What is asked of what is rewritten node by node: `this` stays where it is `this`, and so does a
   -- member on it; a local that is assigned may be written. And the code of what a spot makes of an
@@ -113,10 +113,10 @@ module _ {A : Type 0} (begins : A → ℕ → ℕ) (rows : List Row) (R : Region
     pub written : (c : Context) (base : ℕ) (e : tree.Exp A) (k : LocalKey)
         → PartStays s a_target c value base e → IsLocal rows c e k → X.free k.number
     pub parts : (k : Asks) (c d : Context) (r : Role) (b : ℕ) (e : tree.Exp A) (i : ℕ)
-        (y : tree.Exp A) → SpotStands s k c d r b e i y → StandsFor R rows c d → AreCoded c d e y
+        (y : tree.Exp A) → SpotStands s k c d r b e i y → StandsFor R rows c d → AreCoded c d b e y
     pub targets : (c d : Context) (b : ℕ) (e : tree.Exp A) (i : ℕ) (y : tree.Exp A)
         → SpotStands s a_target c d value b e i y → StandsFor R rows c d
-        → (j : ℕ) (t : TargetCode) → TargetOf begins rows c j e t → IsFreeTarget X.free t
+        → (t : TargetCode) → TargetOf begins rows c b e t → IsFreeTarget X.free t
 
 -- ---- of a member's statements
 
@@ -131,9 +131,9 @@ module _ {A : Type 0} (tells : A → ℕ → Span) (ends : A → ℕ → ℕ) (r
   begins m b = (tells m b).from
 
   -- the code of each new list is related to that of the old one
-  abbrev pub ListsCoded : (n z : ℕ) (c d : Context) → statement.Stmts A → statement.Stmts A
-      → Type 0
-  ListsCoded n z c d xs ys = (b i : ℕ) (s t : ListCode) → StmtsCode begins ends rows n c b xs s
+  abbrev pub ListsCoded : (n z : ℕ) (c d : Context) → (b : ℕ) → statement.Stmts A
+      → statement.Stmts A → Type 0
+  ListsCoded n z c d b xs ys = (i : ℕ) (s t : ListCode) → StmtsCode begins ends rows n c b xs s
       → StmtsCode begins ends (rows_in R) z d i ys t → X.stmts s t
 
   -- What is asked of places that stand so: kept locals have the numbers of their images, and so has
@@ -154,4 +154,4 @@ module _ {A : Type 0} (tells : A → ℕ → Span) (ends : A → ℕ → ℕ) (r
     pub lists : (n z : ℕ) (c d : Context) (b : ℕ) (xs : statement.Stmts A) (i : ℕ)
         (ys : statement.Stmts A) → At n z c d → ListSpotStands S n z c d b xs i ys
         → AreBelow size c.locals → IsPlace rows c → n + locals_in_row xs ≤ size
-        → ListsCoded n z c d xs ys
+        → ListsCoded n z c d b xs ys

@@ -38,6 +38,7 @@ RenamedExpressionsAreImages A = (tells : A → ℕ → Span) (rows : List Row) (
     → k.number < size)
     → CastsStay rows (region_of {A = A} rows g) c
     → RewritesExp tells (spelling (λ m b. (tells m b).from) rows g super_at) c role base e o
-    → o.losses ≡ [] → (b i : ℕ) (x z : Code) → ExpCode (λ m b. (tells m b).from) rows c b e x
+    → o.losses ≡ [] → (i : ℕ) (x z : Code)
+    → ExpCode (λ m b. (tells m b).from) rows c base e x
     → ExpCode (λ m b. (tells m b).from) (rows_to g rows) d i o.tree z
     → (B : NumberSet) × ExpTo r D (whole size (λ n. n)).code everything x z B

@@ -173,7 +173,7 @@ module _ {A : Type 0} (tells : A → ℕ → Span) (last : A → ℕ → ℕ) (r
         let coded = new.0 (method_to g r.0) (image (method r.0) mine) in
         let again = recode_method begins last (rows_to g rows) places' (method_to g r.0) i b y p.tree e (Q.method (method_to g r.0)) coded in
         let kept = method_image tells last rows g super_at worlds fair bound_old bound_new fronts keys maps R has no_rows casts known places places' are implicit r.0 row.0 (subst (λ (z : ClassKey). IsRowOf rows (class_decl z) row.0) (sym r.2) row.1) (types (method r.0) mine) b m mods t w ps body p
-        (subst (λ (z : MemberKey). RewritesMember tells Chosen z b (syntax.method m mods t w ps body) p) (one_key b of (syntax.method m mods t w ps body) j k declares here ∙ r.1) made) none b b (P.method r.0) again.0 (old.0 r.0 mine) again.1 in
+        (subst (λ (z : MemberKey). RewritesMember tells Chosen z b (syntax.method m mods t w ps body) p) (one_key b of (syntax.method m mods t w ps body) j k declares here ∙ r.1) made) none b (P.method r.0) again.0 (old.0 r.0 mine) again.1 in
         subst Goal (sym r.1) (method_elsewhere keys R (P.method r.0) again.0 (Q.method (method_to g r.0)) again.2 kept)
       where
         k_is : (k : MemberKey) → Declares begins declarations b of (syntax.method m mods t w ps body) k → (r : MethodKey) × (k ≡ method r) × (r.class ≡ of)
@@ -189,7 +189,7 @@ module _ {A : Type 0} (tells : A → ℕ → Span) (last : A → ℕ → ℕ) (r
         let coded = new.1 (ctor_to g r.0) (image (constructor r.0) mine) in
         let again = recode_constructor begins last (rows_to g rows) places' (ctor_to g r.0) i b ts us same y p.tree e (Q.constructor (ctor_to g r.0)) coded in
         let kept = constructor_image tells last rows g super_at worlds fair bound_old bound_new fronts keys maps R has no_rows casts known places places' are implicit r.0 (row.0, subst (λ (z : ClassKey). IsRowOf rows (class_decl z) row.0) (sym r.2) row.1) (types (constructor r.0) mine) b m mods w ps args body p
-        (subst (λ (z : MemberKey). RewritesMember tells Chosen z b (syntax.constructor m mods w ps args body) p) (one_key b of (syntax.constructor m mods w ps args body) j k declares here ∙ r.1) made) none b b ss us inits (P.constructor r.0) again.0
+        (subst (λ (z : MemberKey). RewritesMember tells Chosen z b (syntax.constructor m mods w ps args body) p) (one_key b of (syntax.constructor m mods w ps args body) j k declares here ∙ r.1) made) none b ss us inits (P.constructor r.0) again.0
         (old.1 r.0 mine) again.1 in
         subst Goal (sym r.1) (code_elsewhere keys R (P.constructor r.0) again.0 (Q.constructor (ctor_to g r.0)) again.2 kept)
       where

@@ -211,13 +211,13 @@ module _ {A : Type 0} (tells : A → ℕ → Span) (last : A → ℕ → ℕ) (r
     }
 
   pub method_image : (k : MethodKey) (j : ℕ) → IsRowOf rows (class_decl k.class) j → ((t : Ty) → Of t k.params → IsKnown rows t) → (base : ℕ) (m : A) (mods : List (syntax.Modifier A)) (t : Option (tree.TypeName A)) (w : tree.Word A) (ps : List (syntax.Param A)) (body : statement.Stmts A)
-      → (o : Rewritten (syntax.Member A)) → RewritesMember tells Chosen (method k) base (syntax.method m mods t w ps body) o → o.losses ≡ [] → (b i : ℕ) (x y : core.Method RunKeys)
-      → MethodCoded begins last rows places k b (syntax.method m mods t w ps body) x → MethodCoded begins last (rows_to g rows) places' (method_to g k) i o.tree y → ToMethod keys R x y
-  method_image k j row types base m mods t w ps body o made none b i x y old new =
+      → (o : Rewritten (syntax.Member A)) → RewritesMember tells Chosen (method k) base (syntax.method m mods t w ps body) o → o.losses ≡ [] → (i : ℕ) (x y : core.Method RunKeys)
+      → MethodCoded begins last rows places k base (syntax.method m mods t w ps body) x → MethodCoded begins last (rows_to g rows) places' (method_to g k) i o.tree y → ToMethod keys R x y
+  method_image k j row types base m mods t w ps body o made none i x y old new =
       let size = length ps + locals_in_row body in
       method_of keys R size x y (general.method_image tells last rows (region_of rows g) super_at nowhere refl At (renamed_stand tells rows g super_at worlds) (renamed_begin tells rows g super_at worlds) region_worlds
       keys R (Kept keys R size) (goes size) (kept_stmts keys R size) no_rows casts_stay (no_spots begins rows g (Kept keys R size) tt (λ n. tt)) size (coded size) tt places places'
-      k refl j row types base m mods t w ps body (omega arith) o made none b i x y old new)
+      k refl j row types base m mods t w ps body (omega arith) o made none i x y old new)
 
   pub in_front_image : (size : ℕ) (ss ts : List StatementCode) (x y : ListCode) → AllTo (Kept keys R size) ss ts → ToStmts keys R size x y → ToStmts keys R size (in_front ss x) (in_front ts y)
   in_front_image size ss ts x y all h = constructors.in_front_image tells last rows (region_of rows g) super_at nowhere refl At (renamed_stand tells rows g super_at worlds) (renamed_begin tells rows g super_at worlds) region_worlds
@@ -233,14 +233,14 @@ module _ {A : Type 0} (tells : A → ℕ → Span) (last : A → ℕ → ℕ) (r
       keys R (Kept keys R size) (goes size) (kept_stmts keys R size) no_rows casts_stay (no_spots begins rows g (Kept keys R size) tt (λ n. tt)) size (coded size) tt places places' are implicit q n j row is p o es fs args s t a b
 
   pub constructor_image : (k : CtorKey) → HasRow rows (class_decl k.class) → ((t : Ty) → Of t k.params → IsKnown rows t) → (base : ℕ) (m : A) (mods : List (syntax.Modifier A)) (w : tree.Word A) (ps : List (syntax.Param A)) (args : Option (tree.Exps A)) (body : statement.Stmts A)
-      → (o : Rewritten (syntax.Member A)) → RewritesMember tells Chosen (constructor k) base (syntax.constructor m mods w ps args body) o → o.losses ≡ [] → (b i : ℕ) (ss ts : List StatementCode)
+      → (o : Rewritten (syntax.Member A)) → RewritesMember tells Chosen (constructor k) base (syntax.constructor m mods w ps args body) o → o.losses ≡ [] → (i : ℕ) (ss ts : List StatementCode)
       → ((size : ℕ) → AllTo (Kept keys R size) ss ts) → (x y : core.Code RunKeys)
-      → ConstructorCoded begins last rows places k b ss (syntax.constructor m mods w ps args body) x → ConstructorCoded begins last (rows_to g rows) places' (ctor_to g k) i ts o.tree y → ToCode keys R x y
-  constructor_image k row types base m mods w ps args body o made none b i ss ts inits x y old new =
+      → ConstructorCoded begins last rows places k base ss (syntax.constructor m mods w ps args body) x → ConstructorCoded begins last (rows_to g rows) places' (ctor_to g k) i ts o.tree y → ToCode keys R x y
+  constructor_image k row types base m mods w ps args body o made none i ss ts inits x y old new =
       let size = length ps + locals_in_row body in
       code_of keys R size x y (constructors.constructor_image tells last rows (region_of rows g) super_at nowhere refl At (renamed_stand tells rows g super_at worlds) (renamed_begin tells rows g super_at worlds) region_worlds
       keys R (Kept keys R size) (goes size) (kept_stmts keys R size) no_rows casts_stay (no_spots begins rows g (Kept keys R size) tt (λ n. tt)) size (coded size) tt places places' are implicit
-      k row types base m mods w ps args body (omega arith) o made none b i ss ts (inits size) x y old new)
+      k row types base m mods w ps args body (omega arith) o made none i ss ts (inits size) x y old new)
 
   -- ---- initializers
 

@@ -2,7 +2,7 @@ use Rattle.jr_image_code.proofs.Renamed.{renamed_images}
 use Rattle.jr_image_code.proofs.laws.renamed_expressions_are_images.Goals as goal
 
 pub returns : goal.returns
-returns g c tells rows renaming super_at keys declared size from to role base e o are fair stand maps has below casts made none b i x z old new =
+returns g c tells rows renaming super_at keys declared size from to role base e o are fair stand maps has below casts made none i x z old new =
     renamed_images tells rows renaming fair from to stand (record {
       are = fair.are;
       one_old = c.lookups_are_exact.ensures.one rows are;
@@ -16,4 +16,4 @@ returns g c tells rows renaming super_at keys declared size from to role base e 
       whole = fair.names;
       string = fair.string;
       class = fair.class;
-    }) keys declared maps has size below casts super_at role base e o made none b i x z old new
+    }) keys declared maps has size below casts super_at role base e o made none i x z old new
