@@ -17,7 +17,7 @@ use Rattle.jr_rewrite.specs.Spots.{Spotted, AreApart, SpotsAreApart}
 use Rattle.jr_images.specs.Regions.{Region}
 use Rattle.jr_local.specs.Bodies.{begins}
 use Rattle.jr_member_moves.specs.Selecting.{Declared}
-use Rattle.jr_member_moves.specs.Calls.{IsThroughClass, Calls, call_spots, calls_in}
+use Rattle.jr_member_moves.specs.Calls.{IsThroughClass, Calls, calls_in}
 use Rattle.jr_member_moves.specs.Moves.{Journey, upward, aside, Moved, IsHeld, IsNewClass, Goes, Comes, Call, IsNoCall, depth, around, calls_of, goes_alone, comes_alone, both_spots, spots_if, put_change}
 use Rattle.jr_member_moves.specs.PullUp.{key}
 use Rattle.jr_member_moves.specs.Laws.{PullUpIsApart, MoveStaticIsApart}

@@ -3,12 +3,12 @@
 use Rattle.std.proofs.Common.{◌≡◌, ℕ, true, false, List, [], ◌∷◌, ◌++◌, Some, None, codes, refl}
 use Rattle.jr_text.specs.declared.spans.Span.{Span}
 use Rattle.jr_text.specs.Splices.{splice}
-use Rattle.jr_ast.specs.declared.operators.ModWord.TheVariants.{Private, Public, Static, Synchronized}
+use Rattle.jr_ast.specs.declared.operators.ModWord.TheVariants.{Private, Public, Synchronized}
 use Rattle.jr_ast.specs.Tree as tree
 use Rattle.jr_grammar.specs.Layout.{itself}
 use Rattle.jr_names.specs.DeclTexts.{class_text}
 use Rattle.jr_rewrite.specs.Respellings.{stays, becomes, by_class}
-use Rattle.jr_rewrite.specs.Rewritten.{Rewritten, plain, change, dotted_call_out, dotted_changes, Called, new_word}
+use Rattle.jr_rewrite.specs.Rewritten.{plain, change, dotted_call_out}
 use Rattle.jr_rewrite.specs.Woven.{with_changes}
 use Rattle.jr_rewrite.specs.Edited.{entries_of}
 use Rattle.jr_member_moves.specs.Texts.{at_byte, open_monitor}

@@ -1,6 +1,6 @@
 -- Move static: a static method goes to the end of a class that is named, without `private`, and where
 -- it is synchronized in the monitor of its old class (JLS 8.4.3.2, 8.4.3.6).
-use Rattle.std.specs.Prelude.{◌≡◌, ◌≢◌, ◌⊎◌, ℕ, Bool, true, false, List, Some, codes, slice_get}
+use Rattle.std.specs.Prelude.{◌≡◌, ◌≢◌, ◌⊎◌, ℕ, true, false, List, Some, codes, slice_get}
 use Rattle.jr_text.specs.declared.spans.Span.{Span}
 use Rattle.jr_table.specs.Keys.{ClassKey, MethodKey}
 use Rattle.jr_table.specs.Decls.{method, Decl, class_decl}
