@@ -170,6 +170,13 @@ module _ {A : Type 0} (tells : A → ℕ → Span) (S : Spotted A)
 
   -- ---- around the list to which a way leads
 
+  -- what comes has the effect of what a spot makes of a list
+  abbrev pub StmtGoes : Rewritten (statement.Stmts A) → Standing → statement.Stmt A → Type 0
+  StmtGoes q p s = (o : Rewritten (statement.Stmt A)) × TransformsStmt tells all_stay S p.next p.context p.base s o × Same o q
+
+  abbrev pub ListGoes : Rewritten (statement.Stmts A) → Standing → statement.Stmts A → Type 0
+  ListGoes q p b = (o : Rewritten (statement.Stmts A)) × TransformsList tells all_stay S p.next p.context p.base b o × Same o q
+
   module _ {f : tree.Exp A} where
     abbrev IfWithin : Option (Element f) → Type 0 → Type 0
     IfWithin None P = Unit {0}
@@ -199,15 +206,9 @@ module _ {A : Type 0} (tells : A → ℕ → Span) (S : Spotted A)
       abbrev pub IsSpot : Element f → Type 0
       IsSpot x = TransformsList tells all_stay S x.at.next x.at.context x.at.base (statement.more x.stmt x.rest) q
 
-      abbrev pub StmtGoes : Standing → statement.Stmt A → Type 0
-      StmtGoes p s = (o : Rewritten (statement.Stmt A)) × TransformsStmt tells all_stay S p.next p.context p.base s o × Same o q
-
-      abbrev pub ListGoes : Standing → statement.Stmts A → Type 0
-      ListGoes p b = (o : Rewritten (statement.Stmts A)) × TransformsList tells all_stay S p.next p.context p.base b o × Same o q
-
-      at_first : (p : Standing) (s : statement.Stmt A) (ss : statement.Stmts A) (d : StmtWay f s) → ((x : Element f) → element_within begins p d ≡ Some x → BesideStmt p d → IsSpot x → StmtGoes p s)
+      at_first : (p : Standing) (s : statement.Stmt A) (ss : statement.Stmts A) (d : StmtWay f s) → ((x : Element f) → element_within begins p d ≡ Some x → BesideStmt p d → IsSpot x → StmtGoes q p s)
           → (x : Option (Element f)) → element_within begins p d ≡ x → IfWithin x (Other p.next p.context p.base (statement.more s ss) × (BesideStmt p d × ApartList (behind begins s p) ss))
-          → IsSpot (or_element x (record { at = p; stmt = s; rest = ss; way = d })) → ListGoes p (statement.more s ss)
+          → IsSpot (or_element x (record { at = p; stmt = s; rest = ss; way = d })) → ListGoes q p (statement.more s ss)
       unfolding TransformsStmt TransformsElse TransformsStmts
       at_first p s ss d go None is beside spot = (q, spot, (refl, refl, refl))
       at_first p s ss d go (Some x) is beside spot =
@@ -221,7 +222,7 @@ module _ {A : Type 0} (tells : A → ℕ → Span) (S : Spotted A)
       mutual
         unfolding TransformsStmt TransformsElse TransformsStmts
 
-        pub within_stmt : {s : statement.Stmt A} (p : Standing) (d : StmtWay f s) (x : Element f) → element_within begins p d ≡ Some x → BesideStmt p d → IsSpot x → StmtGoes p s
+        pub within_stmt : {s : statement.Stmt A} (p : Standing) (d : StmtWay f s) (x : Element f) → element_within begins p d ≡ Some x → BesideStmt p d → IsSpot x → StmtGoes q p s
         within_stmt p (in_init m is_final t w e d) x is beside spot = absurd cc
         within_stmt p (in_eval m e d) x is beside spot = absurd cc
         within_stmt p (in_condition m c s o d) x is beside spot = absurd cc
@@ -251,7 +252,7 @@ module _ {A : Type 0} (tells : A → ℕ → Span) (S : Spotted A)
             let y = around (inside begins m p) d beside (subst IsSpot (some_is (sym is)) spot) in
             (joined (λ u v. statement.sync m u v) (plain e) y.0, (plain e, y.0, asked (level 0) p.context value (begins m p.base) e, y.1, refl), behind_plain (λ u v. statement.sync m u v) e y.0 q y.2)
 
-        pub around : {b : statement.Stmts A} (p : Standing) (way : ListWay f b) → BesideList p way → IsSpot (nearest begins p way) → ListGoes p b
+        pub around : {b : statement.Stmts A} (p : Standing) (way : ListWay f b) → BesideList p way → IsSpot (nearest begins p way) → ListGoes q p b
         around p (first s ss d) beside spot = at_first p s ss d (λ x is aside there. within_stmt p d x is aside there) (element_within begins p d) refl beside spot
         around p (later s ss d) beside spot =
             let y = around (behind begins s p) d beside.1.1 spot in

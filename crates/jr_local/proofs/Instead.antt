@@ -149,22 +149,22 @@ module _ {A : Type 0} (tells : A → ℕ → Span) (C D : Choosing A) (S T : Spo
               is,
             )
         stmt p (statement.eval m e) o k x (q, part, is) = (q, asked (inside begins m p) a_statement role.statement e q k (λ g w. x g (in_eval m e w)) part, is)
-        stmt p (statement.branch m e y statement.no_else) o k x (q, u, z, test, yes, no, is) = (
+        stmt p (statement.branch m e y statement.no_else) o k x (q, u, z, test, first_is, other_is, is) = (
           q,
           u,
           z,
           asked (inside begins m p) (level 0) value e q k (λ g w. x g (in_condition m e y statement.no_else w)) test,
-          stmt (inside begins m p) y u k (λ g w. x g (in_then m e y statement.no_else w)) yes,
-          no,
+          stmt (inside begins m p) y u k (λ g w. x g (in_then m e y statement.no_else w)) first_is,
+          other_is,
           is,
         )
-        stmt p (statement.branch m e y (statement.otherwise n)) o k x (q, u, z, test, yes, (v, no, same), is) = (
+        stmt p (statement.branch m e y (statement.otherwise n)) o k x (q, u, z, test, first_is, (v, other_is, same), is) = (
           q,
           u,
           z,
           asked (inside begins m p) (level 0) value e q k (λ g w. x g (in_condition m e y (statement.otherwise n) w)) test,
-          stmt (inside begins m p) y u k (λ g w. x g (in_then m e y (statement.otherwise n) w)) yes,
-          (v, stmt (in_other begins m y p) n v k (λ g w. x g (in_else m e y n w)) no, same),
+          stmt (inside begins m p) y u k (λ g w. x g (in_then m e y (statement.otherwise n) w)) first_is,
+          (v, stmt (in_other begins m y p) n v k (λ g w. x g (in_else m e y n w)) other_is, same),
           is,
         )
         stmt p (statement.loop m e y) o k x (q, u, test, body, is) =

@@ -52,15 +52,15 @@ of_right s xs ys cs e m = subst (Meets s) (sym e) (widen s ys (xs ++ ys) (has_ri
 -- ---- on the way to a list
 
 module _ {A : Type 0} (tells : A → ℕ → Span) (C : Choosing A) (s : Spots A) (Held : ℕ → Context → statement.Stmts A → Type 0)
-    (barred : (n : ℕ) (c : Context) (base : ℕ) (xs : statement.Stmts A) → Held n c xs → s.list_stays n c base xs → ⊥) {f : tree.Exp A} where
+    (barred : (n : ℕ) (c : Context) (base : ℕ) (xs : statement.Stmts A) → Held n c xs → s.list_stays n c base xs → ⊥) where
   abbrev begins : A → ℕ → ℕ
   begins m base = (tells m base).from
 
   -- the list that is held begins there
-  abbrev pub HeldAt : Element f → Type 0
+  abbrev pub HeldAt : {f : tree.Exp A} → Element f → Type 0
   HeldAt x = Held x.at.next x.at.context (statement.more x.stmt x.rest)
 
-  at_first : (p : Standing) (t : statement.Stmt A) (ss : statement.Stmts A) (d : StmtWay f t)
+  at_first : {f : tree.Exp A} (p : Standing) (t : statement.Stmt A) (ss : statement.Stmts A) (d : StmtWay f t)
       → ((x : Element f) → element_within begins p d ≡ Some x → HeldAt x → (o : Rewritten (statement.Stmt A)) → TransformsStmt tells C (spotted s) p.next p.context p.base t o → Meets s o.changes)
       → (x : Option (Element f)) → element_within begins p d ≡ x → HeldAt (or_element x (record { at = p; stmt = t; rest = ss; way = d }))
       → (o : Rewritten (statement.Stmts A)) → s.list_stays p.next p.context p.base (statement.more t ss) → TransformsStmts tells C (spotted s) p.next p.context p.base (statement.more t ss) o → Meets s o.changes
@@ -72,7 +72,7 @@ module _ {A : Type 0} (tells : A → ℕ → Span) (C : Choosing A) (s : Spots A
   mutual
     unfolding TransformsStmt TransformsElse TransformsStmts
 
-    within_stmt : {t : statement.Stmt A} (p : Standing) (d : StmtWay f t) (x : Element f) → element_within begins p d ≡ Some x → HeldAt x
+    within_stmt : {f : tree.Exp A} {t : statement.Stmt A} (p : Standing) (d : StmtWay f t) (x : Element f) → element_within begins p d ≡ Some x → HeldAt x
         → (o : Rewritten (statement.Stmt A)) → TransformsStmt tells C (spotted s) p.next p.context p.base t o → Meets s o.changes
     within_stmt p (in_init m is_final t w e d) x is held o v = absurd (none-some x is)
     within_stmt p (in_eval m e d) x is held o v = absurd (none-some x is)
@@ -93,7 +93,7 @@ module _ {A : Type 0} (tells : A → ℕ → Span) (C : Choosing A) (s : Spots A
     within_stmt p (in_locked m e b d) x is held o (q, u, lock, body, same) =
         of_right s q.changes u.changes o.changes (ap (λ (r : Rewritten (statement.Stmt A)). r.changes) same) (meets (inside begins m p) d (subst HeldAt (sym (same_Some _ _ is)) held) u body)
 
-    pub meets : {b : statement.Stmts A} (p : Standing) (way : ListWay f b) → HeldAt (nearest begins p way) → (o : Rewritten (statement.Stmts A)) → TransformsList tells C (spotted s) p.next p.context p.base b o → Meets s o.changes
+    pub meets : {f : tree.Exp A} {b : statement.Stmts A} (p : Standing) (way : ListWay f b) → HeldAt (nearest begins p way) → (o : Rewritten (statement.Stmts A)) → TransformsList tells C (spotted s) p.next p.context p.base b o → Meets s o.changes
     meets p (first t ss d) held o (inr spot) =
         record { next = p.next; context = p.context; base = p.base; list = statement.more t ss; made = o; is = spot; has = λ c h. h }
     meets p (first t ss d) held o (inl (stays, v)) = at_first p t ss d (λ x is there q one. within_stmt p d x is there q one) (element_within begins p d) refl held o stays v
