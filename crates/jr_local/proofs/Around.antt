@@ -235,10 +235,11 @@ module _ {A : Type 0} (tells : A → ℕ → Span) (S : Spotted A)
             )
         within_stmt p (in_else m c s o d) x is beside spot =
             let y = within_stmt (in_other begins m s p) d x is beside.1 spot in
-            let z = within (λ t. statement.otherwise t) y.0 in (
-              joined (λ (u : tree.Exp A × statement.Stmt A) v. statement.branch m u.0 u.1 v) (plain (c, s)) z,
+            let z = within (λ t. statement.otherwise t) y.0 in
+            let two : tree.Exp A × statement.Stmt A = (c, s) in (
+              joined (λ (u : tree.Exp A × statement.Stmt A) v. statement.branch m u.0 u.1 v) (plain two) z,
               (plain c, plain s, z, asked (level 0) p.context value (begins m p.base) c, stmt_stays (inside begins m p) s beside.0, (y.0, y.1, refl), refl),
-              behind_plain (λ (u : tree.Exp A × statement.Stmt A) v. statement.branch m u.0 u.1 v) (c, s) z q y.2,
+              behind_plain (λ (u : tree.Exp A × statement.Stmt A) v. statement.branch m u.0 u.1 v) two z q y.2,
             )
         within_stmt p (in_turning m c s d) x is beside spot = absurd cc
         within_stmt p (in_body m c s d) x is beside spot =
