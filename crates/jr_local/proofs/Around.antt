@@ -228,10 +228,11 @@ module _ {A : Type 0} (tells : A → ℕ → Span) (S : Spotted A)
         within_stmt p (in_condition m c s o d) x is beside spot = absurd cc
         within_stmt p (in_then m c s o d) x is beside spot =
             let y = within_stmt (inside begins m p) d x is beside.1 spot in
-            let two = joined (λ u v. (u, v)) (plain c) y.0 in (
+            let pair : tree.Exp A → statement.Stmt A → tree.Exp A × statement.Stmt A = (λ u v. (u, v)) in
+            let two = joined pair (plain c) y.0 in (
               joined (λ (u : tree.Exp A × statement.Stmt A) v. statement.branch m u.0 u.1 v) two (plain o),
               (plain c, y.0, plain o, asked (level 0) p.context value (begins m p.base) c, y.1, else_stays (in_other begins m s p) o beside.0, refl),
-              before_plain (λ (u : tree.Exp A × statement.Stmt A) v. statement.branch m u.0 u.1 v) two o q (behind_plain (λ u v. (u, v)) c y.0 q y.2),
+              before_plain (λ (u : tree.Exp A × statement.Stmt A) v. statement.branch m u.0 u.1 v) two o q (behind_plain pair c y.0 q y.2),
             )
         within_stmt p (in_else m c s o d) x is beside spot =
             let y = within_stmt (in_other begins m s p) d x is beside.1 spot in
