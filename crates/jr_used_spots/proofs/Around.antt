@@ -1,5 +1,5 @@
 -- Around a list that is a spot all stays: where `stays` is chosen for each word, what comes of the
--- whole is what the spot makes of the list.
+-- whole is what the spot makes of the list. (A lemma for calls: `drafts/later/walk.md`.)
 use Rattle.std.proofs.Common.{◌≡◌, ℕ, ◌+◌, List, Some, None, refl, sym, subst, ◌∙◌, arith}
 use Rattle.std.proofs.lemmas.List.{append-nil}
 use Rattle.std.specs.Prelude.{Option}
