@@ -16,7 +16,8 @@
 //! `Bound::decl` by place. `meanings`: what stands in front of a dot, and the types of arguments;
 //! `new_types`: the types of what stands there now.
 //! `chosen`, `called`: what jr_new_words chooses for each form; its none never comes, as nothing in
-//! a sound program is unbound. `type_names`: written types. `walk`: expressions.
+//! a sound program is unbound. `type_names`: written types. `node_words`: the words of nodes.
+//! `walk`: expressions.
 //!
 //! Statements. `places`: how a place moves (a local comes into scope, its initializer ends, a block
 //! ends), each with the place that it leads to (`specs/Moves: Goes`). `locals`: the word, the type
@@ -35,6 +36,7 @@ mod levels;
 mod locals;
 mod meanings;
 mod new_types;
+mod node_words;
 mod outputs;
 mod places;
 mod spots;

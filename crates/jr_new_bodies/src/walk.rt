@@ -14,136 +14,18 @@ ghost use Rattle.jr_new_bodies.specs.Known as pure;
 ghost use Rattle.jr_new_bodies.specs.Walks as gives;
 ghost use Rattle.jr_new_bodies.specs.OutputView.{gathered};
 
-use crate::called::{call_choice, creation_choice, simple_call_choice, super_call_choice};
-use crate::chosen::{dotted_choice, name_choice, super_field_choice};
+use crate::called::call_choice;
+use crate::chosen::dotted_choice;
 use crate::here::{Here, Role, below, next};
 use crate::levels::{SIGN_LEVEL, UNSIGNED_LEVEL, asked_by, rank};
-use crate::outputs::{
-    Output, keep_loss, put_alone, put_end, put_front, put_on_super, put_part, start_of,
-};
+use crate::node_words::{call_word, called_on_super, creation_words, on_super, simple};
+use crate::outputs::{Output, put_end, put_front, put_part, start_of};
 use crate::spots::part_at;
 use crate::type_names::written_type;
 use jr_ast::{BinOp, Expr, ExprKind, Ident, Path, TypeRef};
 use jr_new_words::Choice;
 use jr_text::{Mark, Span};
 use std::alloc::{AllocError, Global};
-
-/// A simple name, in a node that begins at `at`.
-fn simple<A: Mark>(
-    alloc: Global,
-    here: &Here<'_>,
-    role: Role,
-    at: u32,
-    name: &Ident<A>,
-    out: &mut Output,
-) -> Result<(), AllocError>
-    requires known { IsKnown here.now }
-    requires fits { A.fits_at name.now.mark at }
-    requires bound { pure.NameIsBound (rows_of here.now) (context_of here.now)
-        (role_of role) name.now.name }
-    ensures { IfOk result (λ _. gives.SimpleGathers A.span_from here.now (role_of role) at
-        (word_of name.now) (gathered out.old) (gathered out.new)) }
-{
-    let word = name.mark.span(at);
-    let choice = name_choice(alloc, here, role, word.from, &name.name)?;
-    put_alone(alloc, word, choice, out)
-}
-
-/// A field behind `super`, in a node of this span.
-fn on_super<A: Mark>(
-    alloc: Global,
-    here: &Here<'_>,
-    node: Span,
-    name: &Ident<A>,
-    out: &mut Output,
-) -> Result<(), AllocError>
-    requires known { IsKnown here.now }
-    requires fits { A.fits_at name.now.mark node.from }
-    requires bound { pure.SuperFieldIsBound (rows_of here.now) (context_of here.now)
-        name.now.name }
-    ensures { IfOk result (λ _. gives.SuperGathers A.span_from here.now node (word_of name.now)
-        (gathered out.old) (gathered out.new)) }
-{
-    let word = name.mark.span(node.from);
-    let choice = super_field_choice(alloc, here, word.from, &name.name)?;
-    put_on_super(alloc, node, word, choice, out)
-}
-
-/// The word of a call without a target, in a node that begins at `at`.
-fn call_word<A: Mark>(
-    alloc: Global,
-    here: &Here<'_>,
-    path: &Path,
-    at: u32,
-    name: &Ident<A>,
-    args: &[Expr<A>],
-    out: &mut Output,
-) -> Result<(), AllocError>
-    requires known { IsKnown here.now }
-    requires fits { A.fits_at name.now.mark at }
-    requires types { TypesRow here.now (context_of here.now) path.now.steps.items 1
-        (exprs_of args.now) }
-    requires bound { pure.CallIsBound (λ m b. (A.span_from m b).from) (rows_of here.now)
-        (context_of here.now) tree.no_target name.now.name (exprs_of args.now) }
-    ensures { IfOk result (λ _. gives.CalledGathers A.span_from here.now at (word_of name.now)
-        (exprs_of args.now) (gathered out.old) (gathered out.new)) }
-{
-    let word = name.mark.span(at);
-    let choice = simple_call_choice(alloc, here, path, args, word.from, &name.name)?;
-    put_alone(alloc, word, choice, out)
-}
-
-/// The word of a call behind `super`, in a node that begins at `at`.
-fn called_on_super<A: Mark>(
-    alloc: Global,
-    here: &Here<'_>,
-    path: &Path,
-    at: u32,
-    name: &Ident<A>,
-    args: &[Expr<A>],
-    out: &mut Output,
-) -> Result<(), AllocError>
-    requires known { IsKnown here.now }
-    requires fits { A.fits_at name.now.mark at }
-    requires types { TypesRow here.now (context_of here.now) path.now.steps.items 1
-        (exprs_of args.now) }
-    requires bound { pure.SuperCallIsBound (λ m b. (A.span_from m b).from) (rows_of here.now)
-        (context_of here.now) name.now.name (exprs_of args.now) }
-    ensures { IfOk result (λ _. gives.SuperCalledGathers A.span_from here.now at
-        (word_of name.now) (exprs_of args.now) (gathered out.old) (gathered out.new)) }
-{
-    let word = name.mark.span(at);
-    let choice = super_call_choice(alloc, here, path, args, word.from, &name.name)?;
-    put_alone(alloc, word, choice, out)
-}
-
-/// The class and the constructor of a creation that begins at `at`.
-fn creation_words<A: Mark>(
-    alloc: Global,
-    here: &Here<'_>,
-    path: &Path,
-    at: u32,
-    ty: &TypeRef<A>,
-    args: &[Expr<A>],
-    out: &mut Output,
-) -> Result<(), AllocError>
-    requires known { IsKnown here.now }
-    requires fits { FitsType (λ m b. (A.span_from m b).from) A.fits_at at (type_of ty.now) }
-    requires created { TypesCreation here.now (context_of here.now) path.now.steps.items
-        (type_of ty.now) (exprs_of args.now) }
-    requires types { TypesRow here.now (context_of here.now) path.now.steps.items 1
-        (exprs_of args.now) }
-    requires type_bound { TypeIsBound (λ m b. (A.span_from m b).from) (rows_of here.now)
-        (context_of here.now) at (type_of ty.now) }
-    requires bound { pure.CreationIsBound (λ m b. (A.span_from m b).from) (rows_of here.now)
-        (context_of here.now) (type_of ty.now) (exprs_of args.now) }
-    ensures { IfOk result (λ _. gives.CreatedGathers A.span_from here.now at (type_of ty.now)
-        (exprs_of args.now) (gathered out.old) (gathered out.new)) }
-{
-    let choice = creation_choice(alloc, here, path, at, ty, args)?;
-    keep_loss(choice, out)?;
-    written_type(alloc, here, at, ty, out)
-}
 
 /// The number of a call's first argument among its parts.
 fn first_argument<A>(target: &Option<Box<Expr<A>>>) -> u32

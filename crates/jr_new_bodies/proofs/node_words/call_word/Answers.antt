@@ -18,7 +18,7 @@ use Rattle.jr_new_bodies.specs.Walks.{NamedGathers, TypeGathers}
 use Rattle.jr_new_bodies.proofs.Bound.{named_bound}
 use Rattle.jr_new_bodies.proofs.Giving as gives
 use Rattle.jr_new_bodies.proofs.Oks.{on_ok}
-use Rattle.jr_new_bodies.proofs.walk.creation_words.Goals as goal
+use Rattle.jr_new_bodies.proofs.node_words.call_word.Goals as goal
 
 pub returns : goal.returns
 returns g c =
@@ -31,4 +31,5 @@ returns g c =
     let x = context_of h in
     let old = gathered c.args.out.now in
     let ch = choice_of c.in_ok-choice.choice in
-    IfOk-weaker c.written_type.result _ _ (λ _ y. (ch, gathered c.keep_loss.new.out, c.in_ok-choice.ensures, c.in_ok-keep_loss.ensures, y)) c.written_type.ensures
+    let w = word_of c.args.name.now in
+    on_ok c.put_alone.result (λ e. (ch, subst (λ (k : ℕ). spells.SimpleCallSpells B rows n x k w.text (exprs_of c.args.args.now) ch) (ap (λ (z : Span). z.from) c.span-word.ensures) c.in_ok-choice.ensures, e ∙ ap (λ (s : Span). both old (out.alone ch s)) c.span-word.ensures)) c.put_alone.ensures

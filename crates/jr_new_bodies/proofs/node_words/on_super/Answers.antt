@@ -18,7 +18,7 @@ use Rattle.jr_new_bodies.specs.Walks.{NamedGathers, TypeGathers}
 use Rattle.jr_new_bodies.proofs.Bound.{named_bound}
 use Rattle.jr_new_bodies.proofs.Giving as gives
 use Rattle.jr_new_bodies.proofs.Oks.{on_ok}
-use Rattle.jr_new_bodies.proofs.walk.simple.Goals as goal
+use Rattle.jr_new_bodies.proofs.node_words.on_super.Goals as goal
 
 pub returns : goal.returns
 returns g c =
@@ -32,4 +32,4 @@ returns g c =
     let old = gathered c.args.out.now in
     let ch = choice_of c.in_ok-choice.choice in
     let w = word_of c.args.name.now in
-    on_ok c.put_alone.result (λ e. (ch, subst (λ (k : ℕ). NameSpells rows n x (role_of c.args.role) k w.text ch) (ap (λ (z : Span). z.from) c.span-word.ensures) c.in_ok-choice.ensures, e ∙ ap (λ (s : Span). both old (out.alone ch s)) c.span-word.ensures)) c.put_alone.ensures
+    on_ok c.put_on_super.result (λ e. (ch, subst (λ (k : ℕ). spells.SuperFieldSpells chosen.unmarked rows n x k w.text ch) (ap (λ (z : Span). z.from) c.span-word.ensures) c.in_ok-choice.ensures, e ∙ ap (λ (s : Span). both old (out.behind_super ch c.args.node s)) c.span-word.ensures)) c.put_on_super.ensures
