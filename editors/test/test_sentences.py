@@ -77,7 +77,7 @@ class Sentences(unittest.TestCase):
 
     def test_no_name_of_the_documents_is_missing(self):
         page = (TOP / "docs" / "REPORTS.md").read_text()
-        faults, refusals = page.split("## Refusals")
+        faults, refusals = page[page.index("## The rules") :].split("## Refusals")
         told = re.findall(r"^\| (?:\d+ \| )?`(\w+)` \|", faults, re.MULTILINE)
         self.assertGreater(len(told), 35)
         self.assertEqual(set(), set(told) - set(FAULTS))

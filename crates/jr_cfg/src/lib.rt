@@ -17,5 +17,6 @@ pub use faults::CfgFault;
 pub use jr_expr_sites::Here;
 pub use jr_sites::{PlacedSite, SiteGraph};
 pub use member_graph::graph;
+pub use members::is_synchronized;
 pub use placing::placed_sites;
 pub use statements::{stmt, stmts};

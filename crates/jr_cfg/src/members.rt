@@ -57,7 +57,8 @@ fn is_synchronized_word(word: ModWord) -> bool
     }
 }
 
-fn is_synchronized<A>(modifiers: &[Modifier<A>]) -> bool
+/// Whether a method with these modifiers runs in a monitor (JLS 8.4.3.6).
+pub fn is_synchronized<A>(modifiers: &[Modifier<A>]) -> bool
     ensures { result ≡ runs.is_synchronized (map modifier_of modifiers.now) }
 {
     for modifier in modifiers {

@@ -24,4 +24,4 @@ pub use fields::field_number;
 pub use here::{Here, below};
 pub use puts::{put, put_nothing, put_row, put_rows, put_site};
 pub use step::{Site, Step, What};
-pub use walk::{expr, exprs, next, operand};
+pub use walk::{expr, exprs, left, next, operand, target_operand};

@@ -177,9 +177,10 @@ pub fn operand<'a, F: Facts, A: Mark>(
     expr(alloc, here, &inner, at, part, out)
 }
 
-/// What stands in front of a dot, the first part of the node to which the path leads.
+/// What stands in front of a dot, the first part of the node to which the path leads: the name of a
+/// class does nothing.
 #[cycle(walk)]
-fn left<'a, F: Facts, A: Mark>(
+pub fn left<'a, F: Facts, A: Mark>(
     alloc: Global,
     here: &Here<'a, F>,
     path: &Path,
@@ -201,7 +202,7 @@ fn left<'a, F: Facts, A: Mark>(
 
 /// The operand of what is assigned or bumped, the first part of the node to which the path leads.
 #[cycle(walk)]
-fn target_operand<'a, F: Facts, A: Mark>(
+pub fn target_operand<'a, F: Facts, A: Mark>(
     alloc: Global,
     here: &Here<'a, F>,
     path: &Path,

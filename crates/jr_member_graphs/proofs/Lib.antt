@@ -1,10 +1,11 @@
 -- `Writes`: the locals that expressions write are those of their sites. `Assigned`: those that are
--- gathered as written are those that the member assigns. `Telling`: its own flags tell what is never
--- null. `Gathered`: the walk over statements. `FlagSteps`: flags that are made one by one, and marks.
+-- gathered as written are those that the member assigns. `MemberFlagging`: what a walk takes for
+-- never null is what flags say. `Telling`: its own flags tell what is never null. `Gathered`: the walk over statements. `FlagSteps`: flags that are made one by one, and marks.
 -- `MemberFlags`: those of each kind of member. `NumberedLocals`: initializers stand in the order of
 -- numbers. `NoNulls`: what is never null comes to no null.
 mod Writes
 mod Assigned
+mod MemberFlagging
 mod Telling
 mod Gathered
 mod FlagSteps

@@ -17,7 +17,7 @@ use Rattle.jr_never_null.specs.Flags.{is_safe, init_of}
 use Rattle.jr_never_null.proofs.Flagging.{flags_tell}
 use Rattle.jr_expr_sites.specs.KnownFacts.{Given, Others, known_of, is_never_null, meaning_at}
 use Rattle.jr_cfg.specs.MemberRoutes.{known}
-use Rattle.jr_footprints.proofs.MemberFlagging.{never_is_safe}
+use Rattle.jr_member_graphs.proofs.MemberFlagging.{never_is_safe}
 use Rattle.jr_member_graphs.specs.FlagRows.{is_among}
 use Rattle.jr_member_graphs.specs.MemberLocals.{inits, Assigns, NeverNullIn}
 use Rattle.jr_member_graphs.specs.Notes.{member_locals}

@@ -4,4 +4,5 @@ pub mod NotesView
 pub mod Gathering
 pub mod FlagRows
 pub mod OwnFlags
+pub mod GivenFlags
 pub mod NeverNullRuns

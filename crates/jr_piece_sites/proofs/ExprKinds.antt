@@ -15,13 +15,6 @@ use Rattle.jr_expr_sites.specs.Routes.{begins_by, ends_by, spots}
 use Rattle.jr_piece_sites.specs.Fronts.{one_if, behind_first, in_front_of_second, exps_front, exp_front}
 use Rattle.jr_piece_sites.specs.Parts.{Between, changed, Parts, leaf, named, on_super, dotted, one, two, row, parts_of}
 
--- what means a class is no variable
-class_only : (rows : List Row) (m : Meaning) → is_none (variable_of rows m) && is_class m ≡ is_class m
-class_only rows (local n) = refl
-class_only rows (field k) = refl
-class_only rows class = refl
-class_only rows nothing = refl
-
 zero_plus : (n : ℕ) → 0 + n ≡ n
 zero_plus n = omega arith
 
@@ -69,71 +62,6 @@ module _ {A : Type 0} (tells : A → ℕ → Span) where
   -- ---- sites; at: where the node begins
 
   module _ (g : Given) (o : Others) (path : List ℕ) (base : ℕ) where
-    abbrev pub class_by : (at : ℕ) → Parts A → Bool
-    class_by at leaf = false
-    class_by at (named w) = is_class (meaning_at g (B w.mark at))
-    class_by at on_super = false
-    class_by at (dotted e w) = is_class (meaning_at g (B w.mark at))
-    class_by at (one k e) = false
-    class_by at (two b l r) = false
-    class_by at (row c t es) = false
-
-    pub class_spots : (e : tree.Exp A) → sites.is_class_name (known_of g o) (spots tells path base e) ≡ class_by (B (exp_mark e) base) (parts_of e)
-    unfolding spot_exp spot_exps
-    class_spots (tree.number m n) = refl
-    class_spots (tree.truth m b) = refl
-    class_spots (tree.null m) = refl
-    class_spots (tree.string m s) = refl
-    class_spots (tree.name m w) = class_only g.rows (meaning_at g (B w.mark (B m base)))
-    class_spots (tree.field m e w) = class_only g.rows (meaning_at g (B w.mark (B m base)))
-    class_spots (tree.super_field m w) = refl
-    class_spots (tree.this m) = refl
-    class_spots (tree.class_literal m t) = refl
-    class_spots (tree.call m tree.no_target w es) = refl
-    class_spots (tree.call m (tree.on e) w es) = refl
-    class_spots (tree.super_call m w es) = refl
-    class_spots (tree.create m t es) = refl
-    class_spots (tree.paren m e) = refl
-    class_spots (tree.cast m t e) = refl
-    class_spots (tree.unary m op e) = refl
-    class_spots (tree.bump m op e) = refl
-    class_spots (tree.binary m op l r) = refl
-    class_spots (tree.assign m l r) = refl
-    class_spots (tree.compound m op l r) = refl
-
-    -- of what is assigned
-    abbrev pub operand_by : (at : ℕ) → Parts A → ℕ
-    operand_by at leaf = 0
-    operand_by at (named w) = 0
-    operand_by at on_super = 0
-    operand_by at (dotted e w) = size (route.left tells (path ++ 0 ∷ []) at e g o)
-    operand_by at (one k e) = 0
-    operand_by at (two b l r) = 0
-    operand_by at (row c t es) = 0
-
-    pub operand_spots : (e : tree.Exp A) → size (route.target_operand tells path base e g o) ≡ operand_by (B (exp_mark e) base) (parts_of e)
-    unfolding spot_exp spot_exps
-    operand_spots (tree.number m n) = refl
-    operand_spots (tree.truth m b) = refl
-    operand_spots (tree.null m) = refl
-    operand_spots (tree.string m s) = refl
-    operand_spots (tree.name m w) = refl
-    operand_spots (tree.field m e w) = refl
-    operand_spots (tree.super_field m w) = refl
-    operand_spots (tree.this m) = refl
-    operand_spots (tree.class_literal m t) = refl
-    operand_spots (tree.call m tree.no_target w es) = refl
-    operand_spots (tree.call m (tree.on e) w es) = refl
-    operand_spots (tree.super_call m w es) = refl
-    operand_spots (tree.create m t es) = refl
-    operand_spots (tree.paren m e) = refl
-    operand_spots (tree.cast m t e) = refl
-    operand_spots (tree.unary m op e) = refl
-    operand_spots (tree.bump m op e) = refl
-    operand_spots (tree.binary m op l r) = refl
-    operand_spots (tree.assign m l r) = refl
-    operand_spots (tree.compound m op l r) = refl
-
     -- of what is changed; n: of its evaluation for its value
     abbrev pub read_by : (n : ℕ) → Parts A → ℕ
     read_by n leaf = 0

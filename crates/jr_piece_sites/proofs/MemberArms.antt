@@ -26,10 +26,6 @@ use Rattle.jr_piece_sites.proofs.Counting.{stays}
 use Rattle.jr_piece_sites.proofs.Growths.{to_as}
 use Rattle.jr_piece_sites.proofs.Spotting.{method_number, arguments_are, modifiers_size, params_size, result_size, result_is}
 
-pub sync_any : {A : Type 0} (ms : List (Modifier A)) → list_any (λ m. is_synchronized_word m.word) ms ≡ is_synchronized (map modifier_of ms)
-sync_any [] = refl
-sync_any (m ∷ ms) = ap (λ b. is_synchronized_word m.word || b) (sync_any ms)
-
 -- ---- arguments, and then statements
 
 module _ {A : Type 0} (X : Known RunKeys Spot) (begins ends : A → ℕ → ℕ) (at : ℕ) (p : List ℕ) (b : statement.Stmts Spot) where

@@ -4,6 +4,7 @@ pub mod Pieces
 pub mod PieceView
 pub mod Fronts
 pub mod Growth
+pub mod Footprints
 pub mod Leads
 pub mod Descent
 pub mod PartSites

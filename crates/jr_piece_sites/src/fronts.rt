@@ -14,10 +14,9 @@ ghost use Rattle.jr_piece_sites.specs.Growth.{Grows};
 ghost use Rattle.jr_piece_sites.specs.Parts as parts;
 ghost use Rattle.jr_piece_sites.specs.PartsView.{between_of};
 
-use crate::classes::is_class_name;
 use crate::parts::{Between, Parts, parts_of};
 use jr_ast::{Expr, Path};
-use jr_expr_sites::{Here, Step, What, below, exprs, operand, put_site};
+use jr_expr_sites::{Here, Step, What, exprs, left, operand, put_site, target_operand};
 use jr_table::Facts;
 use jr_text::Mark;
 use std::alloc::{AllocError, Global};
@@ -48,57 +47,6 @@ pub(crate) fn put_if<'a>(
         return put_site(at, what, out);
     }
     Ok(())
-}
-
-/// Puts what stands in front of a dot, the first part of the node to which the path leads: a class
-/// has no sites.
-fn put_left<'a, F: Facts, A: Mark>(
-    alloc: Global,
-    here: &Here<'a, F>,
-    path: &Path,
-    at: u32,
-    part: &Expr<A>,
-    out: &mut Vec<Step<'a>>,
-) -> Result<(), AllocError>
-    requires fits { FitsExp (begins_by A.span_from) A.fits_at at (expr_of part.now) }
-    ensures { OnOk result (Grows (given F.decls F.types here.now)
-        (λ o. size (route.left A.span_from (path.now.steps.items ++ 0 ∷ []) at (expr_of part.now)
-        (given F.decls F.types here.now) o)) out.old.items out.new.items) }
-{
-    let is_class = is_class_name(here, at, part);
-    if is_class {
-        return Ok(());
-    }
-    operand(alloc, here, path, 0, at, part, out)
-}
-
-/// Puts the operand of what is assigned, the first part of the node to which the path leads.
-fn put_operand<'a, F: Facts, A: Mark>(
-    alloc: Global,
-    here: &Here<'a, F>,
-    path: &Path,
-    at: u32,
-    to: &Expr<A>,
-    out: &mut Vec<Step<'a>>,
-) -> Result<(), AllocError>
-    requires fits { FitsExp (begins_by A.span_from) A.fits_at at (expr_of to.now) }
-    ensures { OnOk result (Grows (given F.decls F.types here.now)
-        (λ o. size (route.target_operand A.span_from (path.now.steps.items ++ 0 ∷ []) at
-        (expr_of to.now) (given F.decls F.types here.now) o)) out.old.items out.new.items) }
-{
-    match parts_of(to) {
-        Parts::Dotted(part, _) => {
-            let inner = below(alloc, path, 0)?;
-            put_left(alloc, here, &inner, to.mark.span(at).from, part, out)
-        }
-        Parts::Leaf => Ok(()),
-        Parts::Named(_) => Ok(()),
-        Parts::OnSuper => Ok(()),
-        Parts::One(_, _) => Ok(()),
-        Parts::Two(_, _, _) => Ok(()),
-        Parts::Row(_, _) => Ok(()),
-        Parts::On(_, _) => Ok(()),
-    }
 }
 
 /// Puts the operand of what is changed, the first part of the node to which the path leads, and
@@ -149,7 +97,7 @@ fn put_first<'a, F: Facts, A: Mark>(
 {
     match between {
         Between::Valued => operand(alloc, here, path, 0, at, first, out),
-        Between::Assigned => put_operand(alloc, here, path, at, first, out),
+        Between::Assigned => target_operand(alloc, here, path, at, first, out),
         Between::Changed => put_read(alloc, here, path, at, first, out),
     }
 }
@@ -252,7 +200,7 @@ fn put_call_front<'a, F: Facts, A: Mark>(
         (spot_exps (begins_by A.span_from) (ends_by A.span_from) (exprs_of args.now) at
         path.now.steps.items 2) (pred (pred number))) out.old.items out.new.items) }
 {
-    put_left(alloc, here, path, at, target, out)?;
+    left(alloc, here, path, at, target, out)?;
     put_args(
         alloc,
         here,

@@ -5,13 +5,12 @@
 //! counts the sites in front of each part on the way (`specs/Fronts`). [`site_range`] says which
 //! sites of the member's graph are those of a piece (`specs/Extents`).
 //!
-//! `parts`: the parts of an expression; `pieces`; `classes`: names of classes; `fronts`,
+//! `parts`: the parts of an expression; `pieces`; `fronts`,
 //! `stmt_fronts`, `member_fronts`: what stands in front of a part; `ranges`: the way down a path;
 //! `member_footprints`; `before`; `site_ranges`.
 #![tactic(auto)]
 
 mod before;
-mod classes;
 mod fronts;
 mod member_footprints;
 mod member_fronts;

@@ -5,13 +5,16 @@ ghost use Rattle.jr_ast.specs.Nodes as nodes;
 ghost use Rattle.jr_ast.specs.Nodes.{Node};
 ghost use Rattle.jr_ast.specs.StatementTree as statement;
 ghost use Rattle.jr_ast.specs.Tree as tree;
-ghost use Rattle.jr_ast.specs.View.{member_of};
+ghost use Rattle.jr_ast.specs.View.{expr_of, member_of};
+ghost use Rattle.jr_bind_expr.specs.Fits.{FitsExp};
 ghost use Rattle.jr_cfg.specs.MemberRoutes.{FitsSites, NumbersMember, known};
 ghost use Rattle.jr_cfg.specs.Placed.{placed};
 ghost use Rattle.jr_cover.specs.Spots.{Spot};
 ghost use Rattle.jr_expr_sites.specs.KnownFacts.{Others, known_of};
+ghost use Rattle.jr_expr_sites.specs.Routes as route;
+ghost use Rattle.jr_expr_sites.specs.Routes.{begins_by};
 ghost use Rattle.jr_expr_sites.specs.StepView.{given};
-ghost use Rattle.jr_footprints.specs.Footprints.{IsFootprint};
+ghost use Rattle.jr_piece_sites.specs.Footprints.{IsFootprint};
 ghost use Rattle.jr_piece_sites.specs.Leads.{AllStmts, AreParts, LeadsToExp, LeadsToParts};
 ghost use Rattle.jr_piece_sites.specs.Leads.{of_exp, of_stmts, spots_of};
 ghost use Rattle.jr_piece_sites.specs.PartSites.{PartPut, PartsPut, parts_sites};
@@ -22,14 +25,31 @@ ghost use Rattle.jr_sites.specs.SiteView.{placed_of};
 
 use crate::pieces::{Piece, begin, part, piece_at};
 use crate::ranges::{Found, front, reach};
-use jr_ast::{Member, Path};
+use jr_ast::{Expr, Member, Path};
 use jr_cfg::{placed_sites, stmt};
-use jr_expr_sites::{Here, Step, below};
-use jr_footprints::expr_footprint;
+use jr_expr_sites::{Here, Step, below, expr};
 use jr_sites::PlacedSite;
 use jr_table::{Facts, Table};
 use jr_text::Mark;
 use std::alloc::{AllocError, Global};
+
+/// The sites of an expression to which the path leads from the member, and whose parent begins at
+/// the byte `base` of the file.
+fn expr_footprint<F: Facts, A: Mark>(
+    alloc: Global,
+    here: &Here<'_, F>,
+    path: &Path,
+    base: u32,
+    of: &Expr<A>,
+) -> Result<Vec<PlacedSite>, AllocError>
+    requires fits { FitsExp (begins_by A.span_from) A.fits_at base (expr_of of.now) }
+    ensures { (o : Others) → IfOk result (λ sites. IsFootprint (given F.decls F.types here.now) o
+        (route.exp A.span_from path.now.steps.items base (expr_of of.now)) sites.items) }
+{
+    let mut steps = Vec::new(alloc);
+    expr(alloc, here, path, base, of, &mut steps)?;
+    placed_sites(alloc, here, &steps)
+}
 
 /// The sites of the expression to which the path leads from the member, in evaluation order (JLS
 /// 15.7), with places that count from the member's first byte. The only fault is want of memory.

@@ -1,6 +1,5 @@
 //! What stands in front of a part of a member, in evaluation order (JLS 8).
 ghost use Rattle.std.specs.Prelude.{◌≡◌, ◌+◌, ◌<◌, IfOk, length, map, option_map, suc};
-ghost use Rattle.std.specs.List.{list_any};
 ghost use Rattle.jr_ast.specs.View.{args_of, exprs_of, member_of, modifier_of, param_of};
 ghost use Rattle.jr_ast.specs.View.{stmts_of, type_of};
 ghost use Rattle.jr_bind_expr.specs.Fits.{FitsExps, FitsStmts};
@@ -19,26 +18,12 @@ ghost use Rattle.jr_runs.specs.MemberTranslation as runs;
 use crate::fronts::{put_args, put_if};
 use crate::pieces::{left_of, results};
 use crate::stmt_fronts::put_stmts;
-use jr_ast::{Expr, Member, MemberKind, ModWord, Modifier, Param, Path, Stmt, TypeRef};
+use jr_ast::{Expr, Member, MemberKind, Modifier, Param, Path, Stmt, TypeRef};
+use jr_cfg::is_synchronized;
 use jr_expr_sites::{Here, Step, What, put_site};
 use jr_table::Facts;
 use jr_text::Mark;
 use std::alloc::{AllocError, Global};
-
-fn is_synchronized_word<A>(modifier: &Modifier<A>) -> bool
-    ensures { result ≡ runs.is_synchronized_word modifier.now.word }
-{
-    match modifier.word {
-        ModWord::Synchronized => true,
-        _ => false,
-    }
-}
-
-fn is_synchronized<A>(modifiers: &[Modifier<A>]) -> bool
-    ensures { result ≡ list_any (λ m. runs.is_synchronized_word m.word) modifiers.now }
-{
-    modifiers.iter().any(is_synchronized_word)
-}
 
 /// As the number of a local. More parameters than numbers don't fit any memory.
 fn locals_of<A>(params: &[Param<A>]) -> Result<u32, AllocError>

@@ -5,7 +5,7 @@ use Rattle.jr_cover.specs.Spots.{Spot}
 use Rattle.jr_never_null.specs.Flags.{is_safe}
 use Rattle.jr_expr_sites.specs.KnownFacts.{known_of, is_never_null}
 use Rattle.jr_expr_sites.specs.StepView.{given}
-use Rattle.jr_footprints.proofs.MemberFlagging.{never_is_safe}
+use Rattle.jr_member_graphs.proofs.MemberFlagging.{never_is_safe}
 use Rattle.jr_member_graphs.specs.OwnFlags.{no_others}
 use Rattle.jr_member_graphs.proofs.flags.next_flag.Goals as goal
 

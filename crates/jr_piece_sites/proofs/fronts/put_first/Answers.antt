@@ -15,8 +15,8 @@ use Rattle.jr_piece_sites.proofs.fronts.put_first.Goals as goal
 pub operand-requires : goal.operand-requires
 operand-requires g c = record { fits = c.requires.fits }
 
-pub put_operand-requires : goal.put_operand-requires
-put_operand-requires g c = record { fits = c.requires.fits }
+pub target_operand-requires : goal.target_operand-requires
+target_operand-requires g c = record { fits = c.requires.fits }
 
 pub put_read-requires : goal.put_read-requires
 put_read-requires g c = record { fits = c.requires.fits }
@@ -39,9 +39,9 @@ returns-in-Assigned g c =
     let path = c.args.path.now.steps.items in
     let old = c.args.out.now.items in
     let e = expr_of c.args.first.now in
-    let new = c.put_operand.new.out.items in
-    on_ok_then c.put_operand.result (λ h. counting.grows_as G (λ o. size (route.target_operand T (path ++ 0 ∷ []) c.args.at e G o)) (λ o. in_front_of_second (known_of G o) (between_of c.args.between) (spots T (path ++ 0 ∷ []) c.args.at e)) old new
-    (λ o. ap (λ b. in_front_of_second (known_of G o) (between_of b) (spots T (path ++ 0 ∷ []) c.args.at e)) (sym c.in-Assigned.is)) h) c.put_operand.ensures
+    let new = c.target_operand.new.out.items in
+    on_ok_then c.target_operand.result (λ h. counting.grows_as G (λ o. size (route.target_operand T (path ++ 0 ∷ []) c.args.at e G o)) (λ o. in_front_of_second (known_of G o) (between_of c.args.between) (spots T (path ++ 0 ∷ []) c.args.at e)) old new
+    (λ o. ap (λ b. in_front_of_second (known_of G o) (between_of b) (spots T (path ++ 0 ∷ []) c.args.at e)) (sym c.in-Assigned.is)) (counting.walk_grows G (route.target_operand T (path ++ 0 ∷ []) c.args.at e) old new h)) c.target_operand.ensures
 
 pub returns-in-Changed : goal.returns-in-Changed
 returns-in-Changed g c =

@@ -19,7 +19,7 @@ use Rattle.jr_piece_sites.proofs.Fitting.{member_own}
 use Rattle.jr_piece_sites.proofs.Leading as leading
 use Rattle.jr_piece_sites.proofs.SpottedPaths as spotted_path
 use Rattle.jr_piece_sites.specs.Leads.{of_exp}
-use Rattle.jr_footprints.specs.Footprints.{IsFootprint}
+use Rattle.jr_piece_sites.specs.Footprints.{IsFootprint}
 use Rattle.jr_piece_sites.proofs.member_footprints.footprint.Goals as goal
 
 pub span-requires : goal.span-requires

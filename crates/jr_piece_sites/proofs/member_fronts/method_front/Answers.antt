@@ -76,7 +76,7 @@ returns-in-Some g c =
     let le : K ≤ i = place.at_least (suc (length c.args.modifiers.now + c.results.result) + length c.args.params.now) K i same c.in-Some.ensures.0 in
     let is : j ≡ i - K = c.in-Some.ensures.1 ∙ ap (λ (q : ℕ). i - q) same in
     let there : first ≡ K = c.saturating_sub-first.ensures ∙ place.taken_off K i j le is in
-    let locked = c.is_synchronized-is_locked.ensures ∙ arm.sync_any c.args.modifiers.now in
+    let locked = c.is_synchronized-is_locked.ensures in
     growth.if_ok_then c.put_method_body.result (λ k p. growth.to_as G (NumberedAll T n path first at body) so (λ o. method_body (known_of G o) c.is_synchronized-is_locked.result (spot_stmts (begins_by T) (ends_by T) body at path first) j) whole
     (n + locals_up_to body j) next k old new (λ o q. subst (λ (X : Type 0). X) (λ z. NumberedAll T (sym count z) path (sym there z) at body o) q)
     (λ o. (λ z. method_body (known_of G o) (locked z) (spot_stmts (begins_by T) (ends_by T) body at path (there z)) j) ∙ place.behind_at 0 (f o) K i j le is)

@@ -10,7 +10,7 @@ use Rattle.jr_never_null.specs.Flags.{local_flag, is_safe}
 use Rattle.jr_never_null.proofs.Flagging.{flags_tell}
 use Rattle.jr_expr_sites.specs.Meanings.{Meaning, local, field, class, nothing, is_static_field, field_variable, variable_of}
 use Rattle.jr_expr_sites.specs.KnownFacts.{Given, Others, known_of, is_never_null, is_kept, meaning_at}
-use Rattle.jr_footprints.specs.MemberFlags.{FlagsTellTheMember}
+use Rattle.jr_member_graphs.specs.GivenFlags.{FlagsTellTheMember}
 
 by_static : (flags : List Bool) (is_static : Bool) (k : FieldKey) → false ≡ local_flag {K = RunKeys} flags (Some (field_variable is_static k))
 by_static flags true k = refl

@@ -1,5 +1,0 @@
-use Rattle.jr_footprints.proofs.MemberFlagging.{flags_tell_the_member}
-use Rattle.jr_footprints.proofs.laws.flags_tell_the_member.Goals as goal
-
-pub returns : goal.returns
-returns c G o is_assigned inits are e = flags_tell_the_member G o is_assigned inits are e
