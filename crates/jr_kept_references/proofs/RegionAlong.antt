@@ -133,7 +133,7 @@ module _ {A : Type 0} (tells : A → ℕ → Span) (rows : List Row) (R : Region
     where
       by : (s : Spotted A) → OrPart s k c r b e p (TransformsExp tells Chosen S c r b e p) → (SpotStands s k c d r b e i p.tree → SpotStands S k c d r b e i p.tree) → PartSide k r b i e p.tree
       by nowhere inner is = inl (by_node inner)
-      by (spotted s) (inl inner) is = inl (by_node inner)
+      by (spotted s) (inl (stays, inner)) is = inl (by_node inner)
       by (spotted s) (inr spot) is = inr (is (p, spot, none, refl))
 
   -- a field, or a class in front of a dot

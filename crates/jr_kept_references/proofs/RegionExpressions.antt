@@ -71,7 +71,7 @@ module _ {A : Type 0} (tells : A → ℕ → Span) (rows : List Row) (R : Region
       where
         by : (s : Spotted A) → PartsBecome (λ m b. (tells m b).from) rows R s → OrPart s k c r base e p (TransformsExp tells Chosen S c r base e p) → Gives e p.tree
         by nowhere become inner = by_node inner
-        by (spotted s) become (inl inner) = by_node inner
+        by (spotted s) become (inl (stays, inner)) = by_node inner
         by (spotted s) become (inr spot) = become.1 k c d r base e p spot none w.stand
 
     -- where `this` stays, nothing else stands for it

@@ -229,7 +229,7 @@ module _ {A : Type 0} (tells : A → ℕ → Span) (rows : List Row) (R : Region
       where
         by : (s : Spotted A) → OrMembers s b of xs q N → (MembersSpotStands s b of xs q.tree → MembersSpotStands S b of xs q.tree) → SideMembers b i of xs q.tree ⊎ MembersSpotStands S b of xs q.tree
         by nowhere inner is = inl (by_node inner)
-        by (spotted s) (inl inner) is = inl (by_node inner)
+        by (spotted s) (inl (stays, inner)) is = inl (by_node inner)
         by (spotted s) (inr spot) is = inr (is (q, spot, none, refl))
 
     class_side : (b i : ℕ) (outer : Option (List ℕ)) (x : syntax.Class A) (q : Rewritten (syntax.Class A)) (N : Type 0) → OrClass S b outer x q N → q.losses ≡ [] → (N → SideClass b i outer x q.tree)
@@ -238,7 +238,7 @@ module _ {A : Type 0} (tells : A → ℕ → Span) (rows : List Row) (R : Region
       where
         by : (s : Spotted A) → OrClass s b outer x q N → (ClassSpotStands s b outer x q.tree → ClassSpotStands S b outer x q.tree) → SideClass b i outer x q.tree ⊎ ClassSpotStands S b outer x q.tree
         by nowhere inner is = inl (by_node inner)
-        by (spotted s) (inl inner) is = inl (by_node inner)
+        by (spotted s) (inl (stays, inner)) is = inl (by_node inner)
         by (spotted s) (inr spot) is = inr (is (q, spot, none, refl))
 
     mutual

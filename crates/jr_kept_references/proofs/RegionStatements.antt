@@ -78,7 +78,7 @@ module _ {A : Type 0} (tells : A → ℕ → Span) (rows : List Row) (R : Region
     where
       by : (s : Spotted A) → OrList s n c b xs q (TransformsStmts tells Chosen S n c b xs q) → (ListSpotStands s n z c d b xs i q.tree → ListSpotStands S n z c d b xs i q.tree) → SideList n z c d b i xs q.tree
       by nowhere inner is = inl (by_node inner)
-      by (spotted s) (inl inner) is = inl (by_node inner)
+      by (spotted s) (inl (stays, inner)) is = inl (by_node inner)
       by (spotted s) (inr spot) is = inr (is (q, spot, none, refl))
 
   mutual

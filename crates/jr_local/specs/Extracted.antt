@@ -14,11 +14,8 @@ use Rattle.std.specs.Prelude.{
   ◌∷◌,
   ◌++◌,
   map,
-  Some,
   None,
-  slice_get,
   codes,
-  Contains,
 }
 use Rattle.jr_text.specs.declared.spans.Span.{Span}
 use Rattle.jr_lex.specs.declared.items.Item.{Item}
@@ -26,7 +23,6 @@ use Rattle.jr_lex.specs.declared.items.TokenKind.TheVariants.{Word}
 use Rattle.jr_lex.specs.Lexes.{Lexes}
 use Rattle.jr_ast.specs.Tree as tree
 use Rattle.jr_ast.specs.StatementTree as statement
-use Rattle.jr_ast.specs.MemberTree as syntax
 use Rattle.jr_ast.specs.Marks.{exp_mark, stmt_mark}
 use Rattle.jr_grammar.specs.Layout.{itself}
 use Rattle.jr_grammar.specs.Tokens.{word}
@@ -146,9 +142,13 @@ module _ (p : Program Span) (file from to : ℕ) (name : List ℕ) (x : Selected
   abbrev pub name_spot : List Item → Spots Span
   name_spot items = record {
     part = λ k c r base e o. IsValue k c e × (o ≡ named name items (exp_mark x.value));
+    part_stays = λ k c r base e. IsValue k c e → ⊥;
     list = λ n c base xs o. ⊥;
+    list_stays = λ n c base xs. Unit {0};
     members = λ base of xs o. ⊥;
+    members_stay = λ base of xs. Unit {0};
     whole = λ base outer c o. ⊥;
+    whole_stays = λ base outer c. Unit {0};
     this_stays = Unit {0};
   }
 
@@ -179,20 +179,29 @@ module _ (p : Program Span) (file from to : ℕ) (name : List ℕ) (x : Selected
         ≡ type.respelled + (piece.respelled + (first.respelled + rest.respelled))
     pub losses_are : o.losses ≡ piece.losses ++ (first.losses ++ rest.losses)
 
+  -- it is the list from the statement on
+  abbrev pub IsHeld : (n : ℕ) → Context → statement.Stmts Span → Type 0
+  IsHeld n c statement.end = ⊥
+  IsHeld n c (statement.more s ss) = (n ≡ (element x).at.next) × (c ≡ (element x).at.context)
+      × (s ≡ (element x).stmt) × (ss ≡ (element x).rest)
+
   module _ (text : List ℕ) (items : List Item) (type : Rewritten (tree.TypeName Span)) where
     abbrev pub Extracts : (n : ℕ) → Context → (base : ℕ) → statement.Stmts Span
         → Rewritten (statement.Stmts Span) → Type 0
     Extracts n c base statement.end o = ⊥
-    Extracts n c base (statement.more s ss) o = (n ≡ (element x).at.next)
-        × (c ≡ (element x).at.context) × (s ≡ (element x).stmt) × (ss ≡ (element x).rest)
-        × Puts text items type n c base s ss o
+    Extracts n c base (statement.more s ss) o =
+        IsHeld n c (statement.more s ss) × Puts text items type n c base s ss o
 
     abbrev pub list_spot : Spots Span
     list_spot = record {
       part = λ k c r base e o. ⊥;
+      part_stays = λ k c r base e. Unit {0};
       list = λ n c base xs o. Extracts n c base xs o;
+      list_stays = λ n c base xs. IsHeld n c xs → ⊥;
       members = λ base of ys o. ⊥;
+      members_stay = λ base of ys. Unit {0};
       whole = λ base outer d o. ⊥;
+      whole_stays = λ base outer d. Unit {0};
       this_stays = Unit {0};
     }
 
@@ -202,17 +211,6 @@ module _ (p : Program Span) (file from to : ℕ) (name : List ℕ) (x : Selected
 
     abbrev pub spots_of : ℕ → Spotted Span
     spots_of n = spots_if (nat_eq n file)
-
-    -- The spots are used: a declaration is put in front of the statement, and the name in the
-    -- expression's place. Of the changes that spellings make none is the same.
-    pub record PutsBoth (files : List (Rewritten (syntax.Unit Span))) : Type 0 where
-      pub o : Rewritten (syntax.Unit Span)
-      pub stands : slice_get files file ≡ Some o
-      pub init : List ℕ
-      pub gap : List ℕ
-      pub is_put : Contains o.changes
-          (put_declaration name (stmt_mark (element x).stmt) type.tree init gap)
-      pub is_named : Contains o.changes (put_name name items (exp_mark x.value))
 
   -- the tokens of a file may stand where they end, and the name where the expression ended
   abbrev pub Fronted : ℕ → Fronts
@@ -251,7 +249,6 @@ module _ (p : Program Span) (file from to : ℕ) (name : List ℕ) where
       region = around p file from to name f.selected;
       spots = spots_of p file from to name f.selected f.text f.items f.type;
       fronts = Fronted p file from to name f.selected;
-      Makes = λ files. PutsBoth p file from to name f.selected f.text f.items f.type files;
       AlsoLost = λ lost. lost ≡ lost_type f;
       Crosses = Crosses f.selected;
     };

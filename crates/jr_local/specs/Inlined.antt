@@ -2,7 +2,6 @@
 -- goes, and a spot at each read of the local, where a copy of its initializer comes.
 use Rattle.std.specs.Prelude.{
   ◌≡◌,
-  ◌≢◌,
   ◌⊎◌,
   ℕ,
   ◌+◌,
@@ -27,7 +26,6 @@ use Rattle.jr_lex.specs.declared.items.TokenKind.{TokenKind}
 use Rattle.jr_lex.specs.Lexes.{Lexes}
 use Rattle.jr_ast.specs.Tree as tree
 use Rattle.jr_ast.specs.StatementTree as statement
-use Rattle.jr_ast.specs.MemberTree as syntax
 use Rattle.jr_ast.specs.Marks.{exp_mark, stmt_mark}
 use Rattle.jr_grammar.specs.Layout.{itself}
 use Rattle.jr_grammar.specs.Spelling.{toks}
@@ -36,7 +34,6 @@ use Rattle.jr_sync.specs.declared.sites.DepKind.{DepKind}
 use Rattle.jr_cover.specs.Ways.{sites_of}
 use Rattle.jr_cover.specs.Sites.{exp_way}
 use Rattle.jr_table.specs.Keys.{Ty}
-use Rattle.jr_table.specs.Decls.{local_decl}
 use Rattle.jr_table.specs.Binding.{value, HasType}
 use Rattle.jr_table.specs.Context.{Context, locals_in, after}
 use Rattle.jr_names.specs.Sites.{SiteAt}
@@ -119,6 +116,12 @@ module _ (p : Program Span) (file at : ℕ) (x : Asked p file at) (type : Ty) wh
   abbrev pub left_out : Region Span
   left_out = without p.rows x.key type
 
+  -- it is the list from the declaration on
+  abbrev pub IsHeld : (n : ℕ) → Context → statement.Stmts Span → Type 0
+  IsHeld n c statement.end = ⊥
+  IsHeld n c (statement.more s ss) = (n ≡ (element t).at.next) × (c ≡ (element t).at.context)
+      × (s ≡ (element t).stmt) × (ss ≡ (element t).rest)
+
   -- ---- copies
 
   abbrev pub IsCopyAt : Naming t → Copy → Type 0
@@ -145,12 +148,20 @@ module _ (p : Program Span) (file at : ℕ) (x : Asked p file at) (type : Ty) wh
         × (copy : Copy) × Contains cs copy × (exp_mark n.at ≡ copy.read)
         × Becomes text items (exp_mark t.init) k copy o
 
+    -- where none is, all stays as it is
+    abbrev pub IsNoRead : Asks → Context → tree.Exp Span → Type 0
+    IsNoRead k c e = (n : Naming t) → IsReadAt k c e n → ⊥
+
     abbrev pub read_spot : Spots Span
     read_spot = record {
       part = λ k c r base e o. Reads k c e o;
+      part_stays = λ k c r base e. IsNoRead k c e;
       list = λ n c base xs o. ⊥;
+      list_stays = λ n c base xs. Unit {0};
       members = λ base of xs o. ⊥;
+      members_stay = λ base of xs. Unit {0};
       whole = λ base outer d o. ⊥;
+      whole_stays = λ base outer d. Unit {0};
       this_stays = Unit {0};
     }
 
@@ -172,16 +183,19 @@ module _ (p : Program Span) (file at : ℕ) (x : Asked p file at) (type : Ty) wh
     abbrev pub Inlines : (gone : Span) → (n : ℕ) → Context → (base : ℕ) → statement.Stmts Span
         → Rewritten (statement.Stmts Span) → Type 0
     Inlines gone n c base statement.end o = ⊥
-    Inlines gone n c base (statement.more s ss) o = (n ≡ (element t).at.next)
-        × (c ≡ (element t).at.context) × (s ≡ (element t).stmt) × (ss ≡ (element t).rest)
-        × Goes gone n c base s ss o
+    Inlines gone n c base (statement.more s ss) o =
+        IsHeld n c (statement.more s ss) × Goes gone n c base s ss o
 
     abbrev pub list_spot : (gone : Span) → Spots Span
     list_spot gone = record {
       part = λ k c r base e o. ⊥;
+      part_stays = λ k c r base e. Unit {0};
       list = λ n c base xs o. Inlines gone n c base xs o;
+      list_stays = λ n c base xs. IsHeld n c xs → ⊥;
       members = λ base of ys o. ⊥;
+      members_stay = λ base of ys. Unit {0};
       whole = λ base outer d o. ⊥;
+      whole_stays = λ base outer d. Unit {0};
       this_stays = Unit {0};
     }
 
@@ -202,14 +216,6 @@ module _ (p : Program Span) (file at : ℕ) (x : Asked p file at) (type : Ty) wh
     abbrev pub Fronted : (gone : Span) → ℕ → Fronts
     Fronted gone n byte k = EndsToken p n byte k ⊎ ((n ≡ file)
         × (EndsCopy byte k ⊎ ((byte ≡ gone.to) × EndsToken p n gone.from k)))
-
-  -- The spots are used: the declaration goes, and no reference to the local is left, as these have
-  -- no image and are lost where they stay. No spelling takes bytes away alone.
-  pub record TakesAway (gone : Span) (files : List (Rewritten (syntax.Unit Span))) : Type 0 where
-    pub o : Rewritten (syntax.Unit Span)
-    pub stands : slice_get files file ≡ Some o
-    pub goes : Contains o.changes (change gone [])
-    pub none_left : (l : Loss) → Contains o.losses l → l.declaration ≢ local_decl x.key
 
 module _ (p : Program Span) (file at : ℕ) where
   -- what is inlined where nothing refuses: the local, its initializer's type, the file's text with
@@ -254,7 +260,6 @@ module _ (p : Program Span) (file at : ℕ) where
       region = left_out p file at f.asked f.type;
       spots = spots_of p file at f.asked f.type f.text f.items f.copies f.gone;
       fronts = Fronted p file at f.asked f.type f.text f.items f.copies f.gone;
-      Makes = λ files. TakesAway p file at f.asked f.type f.gone files;
       AlsoLost = λ lost. lost ≡ lost_copies f;
       Crosses = Crosses f.asked;
     };

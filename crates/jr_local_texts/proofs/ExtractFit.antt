@@ -61,7 +61,7 @@ module _ (p : Program Span) (program : IsProgram itself (λ m b. Unit {0}) p) (w
 
   extract_shaped : (n : ℕ) (c : Context) (base : ℕ) (xs : statement.Stmts Span) (o : Rewritten (statement.Stmts Span)) → Extracts p file from to name x f.text f.items f.type n c base xs o → StmtsShaped xs → StmtsShaped o.tree
   extract_shaped n c base statement.end o w h = absurd w
-  extract_shaped n c base (statement.more s ss) o w h = puts_shaped n c base s ss o w.2 w.4 h
+  extract_shaped n c base (statement.more s ss) o w h = puts_shaped n c base s ss o w.0.2 w.1 h
 
   pub list_suits : AreSuitableSpots itself (choices p file from to name x (around p file from to name x)) (Weaves F f.text) (list_spot p file from to name x f.text f.items f.type)
   list_suits = record {

@@ -15,6 +15,7 @@ use Rattle.jr_local_texts.proofs.NamedTypes.{type_named}
 use Rattle.jr_local_texts.proofs.Fronts.{fronted_from}
 use Rattle.jr_local_texts.proofs.ExtractFit as extract
 use Rattle.jr_local_texts.proofs.InlineFit as inline
+use Rattle.jr_local_texts.proofs.Used.{extract_spots_apart, inline_spots_apart}
 
 pub extracts_fit : MembersAreWritten Span → RowsAreNamed Span → RegionsAreSound → ExtractsFit
 extracts_fit written names sound p program file from to name is_name f spelled =
@@ -26,6 +27,7 @@ extracts_fit written names sound p program file from to name is_name f spelled =
       spots = extract.spots_suit p program written names file from to name is_name f named;
       fronted = λ n g items e lexes. fronted_from (extracted.Fronted p file from to name x n) items 0 g.text (text_tiled g.text items lexes)
           (λ at k lt ends. inl (record { text = g.text; items = items; is_text = (g, e, refl); lexes = lexes; ends = ends }));
+      apart = extract_spots_apart p file from to name f;
     }
 
 pub inlines_fit : MembersAreWritten Span → RowsAreNamed Span → RegionsAreSound → InlinesFit
@@ -35,4 +37,5 @@ inlines_fit written names sound p program file at f = record {
   spots = inline.spots_suit p program written names file at f;
   fronted = λ n g items e lexes. fronted_from (inlined.Fronted p file at f.asked f.type f.text f.items f.copies f.gone n) items 0 g.text (text_tiled g.text items lexes)
       (λ byte k lt ends. inl (record { text = g.text; items = items; is_text = (g, e, refl); lexes = lexes; ends = ends }));
+  apart = inline_spots_apart p file at f;
 }

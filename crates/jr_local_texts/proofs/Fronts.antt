@@ -37,4 +37,4 @@ fronted_from F (i ∷ is) at bytes tiled may = (by_kind i.kind refl, fronted_fro
     by_kind Comment e = subst (MayFront F i.span.to) (sym e) tt
 
 pub is_fit : (p : Program Span) (t : Transform) → IsFitting p t → IsFit p t
-is_fit p t h = record { sound = h.sound; named = h.named; spots = h.spots; fronted = h.fronted }
+is_fit p t h = record { sound = h.sound; named = h.named; spots = h.spots; fronted = h.fronted; apart = h.apart }

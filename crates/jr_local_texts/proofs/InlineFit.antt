@@ -76,9 +76,9 @@ module _ (p : Program Span) (program : IsProgram itself (λ m b. Unit {0}) p) (w
   inline_shaped : (n : ℕ) (c : Context) (base : ℕ) (xs : statement.Stmts Span) (o : Rewritten (statement.Stmts Span)) → Inlines p file at f.asked f.type f.text f.items f.copies f.gone n c base xs o → StmtsShaped xs → StmtsShaped o.tree
   inline_shaped n c base statement.end o w h = absurd w
   inline_shaped n c base (statement.more s ss) o w h =
-      subst (λ (z : Rewritten (statement.Stmts Span)). StmtsShaped z.tree) (sym w.4.is)
+      subst (λ (z : Rewritten (statement.Stmts Span)). StmtsShaped z.tree) (sym w.1.is)
       (list_shaped itself (choices p file at f.asked f.type (left_out p file at f.asked f.type)) (spotted (read_spot p file at f.asked f.type f.text f.items f.copies)) (Weaves F f.text) (spots.fit p program written names file at f (left_out p file at f.asked f.type) refl) read_suits
-      (n + locals_in s) (after n c s) base ss w.4.rest w.4.rest_is h.1)
+      (n + locals_in s) (after n c s) base ss w.1.rest w.1.rest_is h.1)
 
   pub list_suits : AreSuitableSpots itself (choices p file at f.asked f.type (left_out p file at f.asked f.type)) (Weaves F f.text) (list_spot p file at f.asked f.type f.text f.items f.copies f.gone)
   list_suits = record {

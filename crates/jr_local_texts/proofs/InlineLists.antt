@@ -246,4 +246,4 @@ module _ (p : Program Span) (program : IsProgram itself (λ m b. Unit {0}) p) (w
     pub inline_weaves : (n : ℕ) (c : Context) (base : ℕ) (xs : statement.Stmts Span) (o : Rewritten (statement.Stmts Span)) (ps : Tokens) → Inlines p file at f.asked f.type f.text f.items f.copies f.gone n c base xs o
         → Stands (spans_from itself base (stmts_layout xs)) ps → Weaves F f.text no_indent ps o.changes (stmts_toks o.tree) no_indent
     inline_weaves n c base statement.end o ps w h = absurd w
-    inline_weaves n c base (statement.more s ss) o ps w h = goes_weave n c base s ss o ps w.2 w.4 h
+    inline_weaves n c base (statement.more s ss) o ps w h = goes_weave n c base s ss o ps w.0.2 w.1 h

@@ -2,7 +2,7 @@
 -- of a file), `InlineParts` (a declaration and its reads). Texts: `PrintedTypes`, `NamedTypes`, `Declarations`,
 -- `LineEnds`. Spots: `ExtractSpots`, `ExtractLists`, `InlineSpots`, `InlineLists`. Shapes:
 -- `ShapedBodies`, `ValueShapes`. All together: `KeptNames`, `Fronts`, `ExtractFit`, `InlineFit`,
--- `Fitting` (with `Fronts: is_fit`, for `plans_read`). That spots are used: `SpotUses`, `Used`.
+-- `Fitting` (with `Fronts: is_fit`, for `plans_read`). That spots are used and apart: `Used`.
 pub mod StandingParts
 pub mod StandingBodies
 pub mod PrintedTypes
@@ -20,6 +20,5 @@ pub mod ShapedBodies
 pub mod ExtractFit
 pub mod InlineFit
 pub mod Fronts
-pub mod Fitting
-pub mod SpotUses
 pub mod Used
+pub mod Fitting

@@ -7,6 +7,7 @@ use Rattle.jr_lex.specs.Replacing.{IsName}
 use Rattle.jr_ast.specs.Tree as tree
 use Rattle.jr_grammar.specs.Layout.{itself}
 use Rattle.jr_bind.specs.Programs.{File, Program, IsProgram}
+use Rattle.jr_rewrite.specs.Spots.{SpotsAreApart}
 use Rattle.jr_rewrite.specs.Woven.{Fronted, Weaves}
 use Rattle.jr_rewrite.specs.SuitableSpots.{SpotsSuit}
 use Rattle.jr_images.specs.Regions.{IsSound}
@@ -30,6 +31,7 @@ pub record IsFitting (p : Program Span) (t : Transform) : Type 0 where
       → SpotsSuit itself (choosing_of p t) (Weaves (t.fronts n) f.text) (t.spots n)
   pub fronted : (n : ℕ) (f : File Span) (items : List Item) → slice_get p.files n ≡ Some f
       → Lexes f.text items → Fronted (t.fronts n) items
+  pub apart : (n : ℕ) → SpotsAreApart (t.spots n)
 
 -- Extract local owes nothing more, where the new name is an identifier, and the type's class has a
 -- spelling (16).

@@ -3,7 +3,6 @@ ghost use Rattle.jr_local_texts.specs.Fitting.{ExtractsFit, InlinesFit};
 ghost use Rattle.jr_local_texts.specs.Using.{ExtractsUse, InlinesUse};
 
 use jr_images::rows_are_named;
-use jr_lex::items_are_placed;
 use jr_local::regions_are_sound;
 use jr_members::members_are_written;
 use jr_text::Span;
@@ -30,22 +29,14 @@ pub fn inlines_fit()
     regions_are_sound();
 }
 
-/// A plan of extract local puts the declaration by its spot, in front of the statement: of the
-/// changes that spellings make none puts one.
+/// In a plan of extract local the list from the statement on becomes what its spot makes of it, and
+/// in it the expression becomes the name: neither is rewritten node by node.
 pub fn extracts_use()
     ensures { ExtractsUse }
-{
-    members_are_written::<Span>();
-    rows_are_named::<Span>();
-    items_are_placed();
-}
+{}
 
-/// A plan of inline local takes the declaration away by its spot: no spelling takes bytes away
-/// alone.
+/// In a plan of inline local the list from the declaration on becomes what its spot makes of it,
+/// and each read behind it a copy: none is rewritten node by node.
 pub fn inlines_use()
     ensures { InlinesUse }
-{
-    members_are_written::<Span>();
-    rows_are_named::<Span>();
-    items_are_placed();
-}
+{}

@@ -7,7 +7,7 @@
 //! new trees (`jr_plan: proofs/Planned: plans_read`).
 //!
 //! [`extracts_use`], [`inlines_use`]: a plan puts the declaration, or takes it away, by a list's
-//! spot, as of the changes that spellings make none puts one, and none takes bytes away alone.
+//! spot, and the expression becomes the name, a read a copy: none of these is rewritten node by node.
 //!
 //! Definitions: `specs/Fitting`, `Using`.
 #![tactic(auto)]

@@ -1,6 +1,6 @@
 -- What a program becomes where a member goes to the end of its superclass: a spot in the list of
 -- members from which it goes, and a spot at the class to which it comes; and pull up.
-use Rattle.std.specs.Prelude.{◌≡◌, ◌⊎◌, ℕ, ◌+◌, ◌-◌, nat_eq, Bool, true, false, ◌&&◌, List, [], ◌∷◌, ◌++◌, map, Option, Some, slice_get, Contains}
+use Rattle.std.specs.Prelude.{◌≡◌, ◌⊎◌, ℕ, ◌+◌, ◌-◌, nat_eq, Bool, true, false, ◌&&◌, List, [], ◌∷◌, ◌++◌, map, Option, Some, slice_get}
 use Rattle.std.specs.List.{list_any}
 use Rattle.jr_text.specs.declared.spans.Span.{Span}
 use Rattle.jr_lex.specs.declared.items.Item.{Item}
@@ -134,6 +134,14 @@ module _ (p : Program Span) (file at : ℕ) (x : Declared p file at) (to : Class
 
   -- ---- the spots
 
+  -- these are the members from the one that goes on, and the class to which it comes
+  abbrev pub IsHeld : ClassKey → syntax.Members Span → Type 0
+  IsHeld of syntax.end = ⊥
+  IsHeld of (syntax.more y ys) = (of ≡ class_of x) × (y ≡ x.declaration)
+
+  abbrev pub IsNewClass : Option (List ℕ) → syntax.Class Span → Type 0
+  IsNewClass outer (syntax.class k mods w t ms) = class_key begins outer w.text ≡ to
+
   module _ {text : List ℕ} {items : List Item} (m : Moved text items) (gone : Span)
       (put : Change) where
     module _ (declarations : List DeclaredItem) where
@@ -141,7 +149,7 @@ module _ (p : Program Span) (file at : ℕ) (x : Declared p file at) (to : Class
       abbrev pub Goes : (rest : Spotted Span) → (base : ℕ) → ClassKey → syntax.Members Span
           → Rewritten (syntax.Members Span) → Type 0
       Goes rest base of syntax.end o = ⊥
-      Goes rest base of (syntax.more y ys) o = (of ≡ class_of x) × (y ≡ x.declaration)
+      Goes rest base of (syntax.more y ys) o = IsHeld of (syntax.more y ys)
           × (q : Rewritten (syntax.Members Span))
           × TransformsMembers itself (choices around) rest declarations base of ys q
           × (o ≡ record {
@@ -155,7 +163,7 @@ module _ (p : Program Span) (file at : ℕ) (x : Declared p file at) (to : Class
       abbrev pub Comes : (inside : Spotted Span) → (base : ℕ) → Option (List ℕ)
           → syntax.Class Span → Rewritten (syntax.Class Span) → Type 0
       Comes inside base outer (syntax.class k mods w t ms) o =
-          (class_key begins outer w.text ≡ to)
+          IsNewClass outer (syntax.class k mods w t ms)
           × (p : Rewritten (tree.Word Span × Option (tree.TypeName Span)))
           × (q : Rewritten (syntax.Members Span))
           × RewritesHead itself (choices around) outer base (syntax.class k mods w t ms) p
@@ -172,27 +180,39 @@ module _ (p : Program Span) (file at : ℕ) (x : Declared p file at) (to : Class
       abbrev pub goes_alone : Spots Span
       goes_alone = record {
         part = λ k c r base e o. ⊥;
+        part_stays = λ k c r base e. Unit {0};
         list = λ n c base xs o. ⊥;
+        list_stays = λ n c base xs. Unit {0};
         members = λ base of ys o. Goes nowhere base of ys o;
+        members_stay = λ base of ys. IsHeld of ys → ⊥;
         whole = λ base outer d o. ⊥;
+        whole_stays = λ base outer d. Unit {0};
         this_stays = Unit {0};
       }
 
       abbrev pub comes_alone : Spots Span
       comes_alone = record {
         part = λ k c r base e o. ⊥;
+        part_stays = λ k c r base e. Unit {0};
         list = λ n c base xs o. ⊥;
+        list_stays = λ n c base xs. Unit {0};
         members = λ base of ys o. ⊥;
+        members_stay = λ base of ys. Unit {0};
         whole = λ base outer d o. Comes nowhere base outer d o;
+        whole_stays = λ base outer d. IsNewClass outer d → ⊥;
         this_stays = Unit {0};
       }
 
       abbrev pub both_spots : Spots Span
       both_spots = record {
         part = λ k c r base e o. ⊥;
+        part_stays = λ k c r base e. Unit {0};
         list = λ n c base xs o. ⊥;
+        list_stays = λ n c base xs. Unit {0};
         members = λ base of ys o. Goes (spotted comes_alone) base of ys o;
+        members_stay = λ base of ys. IsHeld of ys → ⊥;
         whole = λ base outer d o. Comes (spotted goes_alone) base outer d o;
+        whole_stays = λ base outer d. IsNewClass outer d → ⊥;
         this_stays = Unit {0};
       }
 
@@ -201,16 +221,6 @@ module _ (p : Program Span) (file at : ℕ) (x : Declared p file at) (to : Class
       spots_if true false = spotted goes_alone
       spots_if false true = spotted comes_alone
       spots_if false false = nowhere
-
-  -- the spots are used: the member goes, and is put into the other class
-  pub record MovesOver (gone : Span) (to_file : ℕ) (put : Change)
-      (files : List (Rewritten (syntax.Unit Span))) : Type 0 where
-    pub here : Rewritten (syntax.Unit Span)
-    pub there : Rewritten (syntax.Unit Span)
-    pub here_is : slice_get files file ≡ Some here
-    pub there_is : slice_get files to_file ≡ Some there
-    pub goes : Contains here.changes (change gone [])
-    pub comes : Contains there.changes put
 
 -- ---- the class to which it goes
 
@@ -280,8 +290,6 @@ module _ (p : Program Span) (file at : ℕ) where
       region = around p file at f.declared (key f);
       spots = spots_of f;
       fronts = Fronted f;
-      Makes = λ files.
-          MovesOver p file at f.declared (key f) f.gone f.written.class.file (put_change f) files;
       AlsoLost = λ lost. lost ≡ lost_lock f;
       Crosses = λ kind first second. ⊥;
     };

@@ -19,7 +19,7 @@ use Rattle.jr_rewrite.proofs.ExpressionShapes.{takes, part_shaped}
 or_list : {A : Type 0} (tells : A → ℕ → Span) (S : Spotted A) (C : Choosing A) (W : Weaving) → SpotsSuit tells C W S → {N : Type 0} (n : ℕ) (c : Context) (base : ℕ) (xs : statement.Stmts A)
     (o : Rewritten (statement.Stmts A)) → OrList S n c base xs o N → StmtsShaped xs → (N → StmtsShaped o.tree) → StmtsShaped o.tree
 or_list tells nowhere C W suit n c base xs o w h go = go w
-or_list tells (spotted s) C W suit n c base xs o w h go = elim w [ inl x ↦ go x | inr x ↦ suit.list_shaped n c base xs o x h ]
+or_list tells (spotted s) C W suit n c base xs o w h go = elim w [ inl x ↦ go x.1 | inr x ↦ suit.list_shaped n c base xs o x h ]
 
 module _ {A : Type 0} (tells : A → ℕ → Span) (C : Choosing A) (S : Spotted A) where
   -- ---- statements

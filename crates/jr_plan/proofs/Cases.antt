@@ -1,14 +1,14 @@
 -- Two worked edits: a local is extracted, and one is inlined, each as a spot in a list of statements
 -- with spots in its expressions. The choices outside of spots all stay.
 use Rattle.std.proofs.Common.{◌≡◌, ◌⊎◌, ℕ, ◌+◌, false, List, [], ◌∷◌, ◌++◌, Some, refl, inl, inr, arith}
-use Rattle.std.specs.Prelude.{codes}
+use Rattle.std.specs.Prelude.{◌≢◌, codes}
 use Rattle.jr_text.specs.declared.spans.Span.{Span}
 use Rattle.jr_text.specs.Splices.{splice}
 use Rattle.jr_ast.specs.declared.operators.BinOp.TheVariants.{Add, Sub}
 use Rattle.jr_ast.specs.declared.operators.UnOp.TheVariants.{Minus}
 use Rattle.jr_ast.specs.Tree as tree
 use Rattle.jr_ast.specs.StatementTree as statement
-use Rattle.jr_ast.specs.Marks.{exp_mark}
+use Rattle.jr_ast.specs.Marks.{exp_mark, stmt_mark}
 use Rattle.jr_grammar.specs.Layout.{itself}
 use Rattle.jr_table.specs.Binding.{value}
 use Rattle.jr_table.specs.Context.{Context, after, locals_in}
@@ -48,9 +48,13 @@ abbrev named : (piece : Span) → (name written : List ℕ) → Spots Span
 named piece name written = record {
   part = λ k c r base e o. (exp_mark e ≡ piece)
       × (o ≡ changed (tree.name piece (record { mark = piece; text = name })) (change piece written ∷ []));
+  part_stays = λ k c r base e. exp_mark e ≢ piece;
   list = λ n c base xs o. ⊥;
+  list_stays = λ n c base xs. Unit {0};
   members = λ base of xs o. ⊥;
+  members_stay = λ base of xs. Unit {0};
   whole = λ base outer x o. ⊥;
+  whole_stays = λ base outer x. Unit {0};
   this_stays = Unit {0};
 }
 
@@ -85,12 +89,21 @@ returned = statement.more (statement.return (span 27 39) (Some brackets)) statem
 abbrev returning : List ℕ
 returning = codes "class A{int m(int a,int b){return(a+b);}}"
 
+-- the list begins with a statement of this span
+abbrev BeginsAt : Span → statement.Stmts Span → Type 0
+BeginsAt at statement.end = ⊥
+BeginsAt at (statement.more s rest) = stmt_mark s ≡ at
+
 abbrev extraction : Spots Span
 extraction = record {
   part = λ k c r base e o. ⊥;
+  part_stays = λ k c r base e. Unit {0};
   list = λ n c base xs o. Extracts all_stay returning brackets (tree.int (span 27 27)) (codes "t") (codes " t") (codes "int t = ") (codes " ") n c base (span 27 39) xs o;
+  list_stays = λ n c base xs. BeginsAt (span 27 39) xs → ⊥;
   members = λ base of xs o. ⊥;
+  members_stay = λ base of xs. Unit {0};
   whole = λ base outer x o. ⊥;
+  whole_stays = λ base outer x. Unit {0};
   this_stays = Unit {0};
 }
 
@@ -139,12 +152,20 @@ module _ (C : Choosing Span) (bytes : List ℕ) (init : tree.Exp Span) (name fro
       ⊎ ((Takes k q.tree → ⊥) × (o ≡ changed (tree.paren m q.tree) (change m (codes "(" ++ with_changes bytes (exp_mark init) q.changes ++ codes ")") ∷ [])))))
   Reads k c base _ o = ⊥
 
+  abbrev IsOther : tree.Exp Span → Type 0
+  IsOther (tree.name m w) = w.text ≢ name
+  IsOther _ = Unit {0}
+
   abbrev reads : Spots Span
   reads = record {
     part = λ k c r base e o. Reads k c base e o;
+    part_stays = λ k c r base e. IsOther e;
     list = λ n c base xs o. ⊥;
+    list_stays = λ n c base xs. Unit {0};
     members = λ base of xs o. ⊥;
+    members_stay = λ base of xs. Unit {0};
     whole = λ base outer x o. ⊥;
+    whole_stays = λ base outer x. Unit {0};
     this_stays = Unit {0};
   }
 
@@ -173,9 +194,13 @@ held = statement.more (statement.local (span 21 30) false (tree.int (span 21 24)
 abbrev inlining : Spots Span
 inlining = record {
   part = λ k c r base e o. ⊥;
+  part_stays = λ k c r base e. Unit {0};
   list = λ n c base xs o. Inlines all_stay differing minus_one (codes "t") (codes " ") (span 21 30) n c base xs o;
+  list_stays = λ n c base xs. BeginsAt (span 21 30) xs → ⊥;
   members = λ base of xs o. ⊥;
+  members_stay = λ base of xs. Unit {0};
   whole = λ base outer x o. ⊥;
+  whole_stays = λ base outer x. Unit {0};
   this_stays = Unit {0};
 }
 
@@ -196,7 +221,7 @@ unfolding TransformsExp TransformsTarget TransformsRow
 difference_becomes c base = (
   plain parameter,
   changed minus_one (change (span 39 40) (codes " -1") ∷ []),
-  inl (stays, refl, refl),
+  inl (λ e. absurd cc, (stays, refl, refl)),
   inr (refl, (plain minus_one, (plain _, refl, refl), inl (omega arith, refl))),
   refl,
 )
@@ -207,11 +232,14 @@ local_is_inlined c =
     inr (
       changed (statement.more (statement.return (span 30 41) (Some difference.tree)) statement.end) difference.changes,
       inl (
-        changed (statement.return (span 30 41) (Some difference.tree)) difference.changes,
-        plain statement.end,
-        (changed (Some difference.tree) difference.changes, (difference, inl (difference_becomes _ _), refl), refl),
-        inl refl,
-        refl,
+        tt,
+        (
+          changed (statement.return (span 30 41) (Some difference.tree)) difference.changes,
+          plain statement.end,
+          (changed (Some difference.tree) difference.changes, (difference, inl (tt, difference_becomes _ _), refl), refl),
+          inl (tt, refl),
+          refl,
+        ),
       ),
       refl,
     )

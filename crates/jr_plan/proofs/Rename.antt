@@ -128,7 +128,7 @@ abbrev pub Files : Type 0
 Files = List (Rewritten (syntax.Unit Span))
 
 abbrev pub rewrite_to : (p : Program Span) (g : Renaming) (files : Files) → Rewrite itself p.rows p.super_at (units_of p) g files → Transformed p (rename_of p g)
-rewrite_to p g files w = record { files = files; rewritten = files_of (choosing_of p (rename_of p g)) _ (units_of p) files w; makes = tt; also_lost = []; also = refl }
+rewrite_to p g files w = record { files = files; rewritten = files_of (choosing_of p (rename_of p g)) _ (units_of p) files w; also_lost = []; also = refl }
 
 pub rewrite_back : (p : Program Span) (g : Renaming) (to : Transformed p (rename_of p g)) → Rewrite itself p.rows p.super_at (units_of p) g to.files
 rewrite_back p g to = files_back (choosing_of p (rename_of p g)) _ (units_of p) to.files to.rewritten
@@ -144,6 +144,7 @@ rename_fits p g fair named new_is = record {
   named = rename_named p.rows g new_is named;
   spots = λ n f e. tt;
   fronted = λ n f items e lexes. all_fronted items;
+  apart = λ n. tt;
 }
 
 -- ---- what is lost

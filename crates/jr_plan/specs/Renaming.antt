@@ -18,7 +18,6 @@ rename_of p g = record {
   region = region_of p.rows g;
   spots = λ n. nowhere;
   fronts = λ n at k. Unit {0};
-  Makes = λ files. Unit {0};
   AlsoLost = λ lost. lost ≡ [];
   Crosses = λ kind first second. ⊥;
 }

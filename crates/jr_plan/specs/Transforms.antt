@@ -26,7 +26,7 @@ use Rattle.jr_bind.specs.Programs.{File, Program, units_of}
 use Rattle.jr_rewrite.specs.Respellings.{Loss}
 use Rattle.jr_rewrite.specs.Rewritten.{Rewritten}
 use Rattle.jr_rewrite.specs.Edited.{entries_of}
-use Rattle.jr_rewrite.specs.Spots.{Spotted}
+use Rattle.jr_rewrite.specs.Spots.{Spotted, SpotsAreApart}
 use Rattle.jr_rewrite.specs.Rewrites.{Choosing, TransformsUnit}
 use Rattle.jr_rewrite.specs.Woven.{Fronts, Fronted, Weaves}
 use Rattle.jr_rewrite.specs.SuitableSpots.{SpotsSuit}
@@ -69,9 +69,6 @@ pub record Transform : Type 1 where
   -- the spots of each file, and which tokens may stand in front of a place of it
   pub spots : (file : ℕ) → Spotted Span
   pub fronts : (file : ℕ) → Fronts
-  -- What has to be among what comes of the files: a spot's relation says what may stand in a place,
-  -- and node by node may stand there, too, so all spots may stay unused.
-  pub Makes : List (Rewritten (syntax.Unit Span)) → Type 0
   -- these are the copied and made references that are lost, in the text order of the new trees
   pub AlsoLost : List Lost → Type 0
   -- 18: the pair, if there is one
@@ -93,6 +90,8 @@ pub record IsFit (p : Program Span) (t : Transform) : Type 1 where
       → SpotsSuit itself (choosing_of p t) (Weaves (t.fronts n) f.text) (t.spots n)
   pub fronted : (n : ℕ) (f : File Span) (items : List Item) → slice_get p.files n ≡ Some f
       → Lexes f.text items → Fronted (t.fronts n) items
+  -- where a spot is, nothing stays: so each spot is used
+  pub apart : (n : ℕ) → SpotsAreApart (t.spots n)
 
 -- ---- what comes of a program
 
@@ -101,7 +100,6 @@ pub record Transformed (p : Program Span) (t : Transform) : Type 0 where
   pub files : List (Rewritten (syntax.Unit Span))
   pub rewritten : TransformsFiles (choosing_of p t)
       (declarations_of (λ (m : Span) b. m.from) (units_of p)) t.spots (units_of p) files
-  pub makes : t.Makes files
   pub also_lost : List Lost
   pub also : t.AlsoLost also_lost
 

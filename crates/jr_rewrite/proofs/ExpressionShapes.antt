@@ -191,12 +191,12 @@ primary_takes (by_cast k) e primary = omega (arith, primary)
 or_takes : {A : Type 0} (tells : A → ℕ → Span) (S : Spotted A) (C : Choosing A) (W : Weaving) → SpotsSuit tells C W S → {N : Type 0} (k : Asks) (c : Context) (r : Role) (base : ℕ) (e : tree.Exp A)
     (o : Rewritten (tree.Exp A)) → OrPart S k c r base e o N → Takes k e → (N → Takes k o.tree) → Takes k o.tree
 or_takes tells nowhere C W suit k c r base e o w h go = go w
-or_takes tells (spotted s) C W suit k c r base e o w h go = elim w [ inl x ↦ go x | inr x ↦ suit.part_takes k c r base e o x h ]
+or_takes tells (spotted s) C W suit k c r base e o w h go = elim w [ inl x ↦ go x.1 | inr x ↦ suit.part_takes k c r base e o x h ]
 
 or_shaped : {A : Type 0} (tells : A → ℕ → Span) (S : Spotted A) (C : Choosing A) (W : Weaving) → SpotsSuit tells C W S → (k : Asks) {N : Type 0} (minus : Bool) (c : Context) (r : Role) (base : ℕ)
     (e : tree.Exp A) (o : Rewritten (tree.Exp A)) → OrPart S k c r base e o N → ShapedBehind minus e → (N → ShapedBehind minus o.tree) → ShapedBehind minus o.tree
 or_shaped tells nowhere C W suit k minus c r base e o w h go = go w
-or_shaped tells (spotted s) C W suit k minus c r base e o w h go = elim w [ inl x ↦ go x | inr x ↦ suit.part_shaped k c r base e o x minus h ]
+or_shaped tells (spotted s) C W suit k minus c r base e o w h go = elim w [ inl x ↦ go x.1 | inr x ↦ suit.part_shaped k c r base e o x minus h ]
 
 -- where `this` stays
 pub this_is : {A : Type 0} (S : Spotted A) {N : Type 0} → OrThis S N → N

@@ -165,7 +165,7 @@ module _ {A : Type 0} (tells : A → ℕ → Span) where
       → OrPart S k c r base e o N → Stands (spans_from tells base (exp_layout e)) ps → (N → Stepped W false ps o.changes (toks o.tree)) → Stepped W false ps o.changes (toks o.tree)
   or_part nowhere C W suit k c r base e o ps w h go = go w
   or_part (spotted s) C W suit k c r base e o ps w h go =
-      elim w [ inl x ↦ go x | inr x ↦ part_woven ps o.changes (toks o.tree) (exp_some base e ps h) (suit.part k c r base e o ps x h) ]
+      elim w [ inl x ↦ go x.1 | inr x ↦ part_woven ps o.changes (toks o.tree) (exp_some base e ps h) (suit.part k c r base e o ps x h) ]
 
   module _ (C : Choosing A) (S : Spotted A) (W : Weaving) (fit : AreSuitable C) (suit : SpotsSuit tells C W S) where
     -- ---- names and types

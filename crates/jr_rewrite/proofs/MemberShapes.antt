@@ -26,18 +26,18 @@ use Rattle.jr_rewrite.proofs.ExpressionShapes.{type_named, takes, part_shaped, r
 or_list : {A : Type 0} (tells : A → ℕ → Span) (S : Spotted A) (C : Choosing A) (W : Weaving) → SpotsSuit tells C W S → {N : Type 0} (n : ℕ) (c : Context) (base : ℕ) (xs : statement.Stmts A)
     (o : Rewritten (statement.Stmts A)) → OrList S n c base xs o N → StmtsShaped xs → (N → StmtsShaped o.tree) → StmtsShaped o.tree
 or_list tells nowhere C W suit n c base xs o w h go = go w
-or_list tells (spotted s) C W suit n c base xs o w h go = elim w [ inl x ↦ go x | inr x ↦ suit.list_shaped n c base xs o x h ]
+or_list tells (spotted s) C W suit n c base xs o w h go = elim w [ inl x ↦ go x.1 | inr x ↦ suit.list_shaped n c base xs o x h ]
 
 or_members : {A : Type 0} (tells : A → ℕ → Span) (S : Spotted A) (C : Choosing A) (W : Weaving) → SpotsSuit tells C W S → {N : Type 0} (nested : Bool) (name new : List ℕ) (base : ℕ) (of : ClassKey)
     (xs : syntax.Members A) (o : Rewritten (syntax.Members A)) → OrMembers S base of xs o N → BecomesName C of name new → MembersShaped nested name xs → (N → MembersShaped nested new o.tree)
     → MembersShaped nested new o.tree
 or_members tells nowhere C W suit nested name new base of xs o w renames h go = go w
-or_members tells (spotted s) C W suit nested name new base of xs o w renames h go = elim w [ inl x ↦ go x | inr x ↦ suit.members_shaped base of xs o x nested name new renames h ]
+or_members tells (spotted s) C W suit nested name new base of xs o w renames h go = elim w [ inl x ↦ go x.1 | inr x ↦ suit.members_shaped base of xs o x nested name new renames h ]
 
 or_class : {A : Type 0} (tells : A → ℕ → Span) (S : Spotted A) (C : Choosing A) (W : Weaving) → SpotsSuit tells C W S → {N : Type 0} (nested : Bool) (base : ℕ) (outer : Option (List ℕ))
     (x : syntax.Class A) (o : Rewritten (syntax.Class A)) → OrClass S base outer x o N → ClassShaped nested x → (N → ClassShaped nested o.tree) → ClassShaped nested o.tree
 or_class tells nowhere C W suit nested base outer x o w h go = go w
-or_class tells (spotted s) C W suit nested base outer x o w h go = elim w [ inl y ↦ go y | inr y ↦ suit.whole_shaped base outer x o y nested h ]
+or_class tells (spotted s) C W suit nested base outer x o w h go = elim w [ inl y ↦ go y.1 | inr y ↦ suit.whole_shaped base outer x o y nested h ]
 
 module _ {A : Type 0} (tells : A → ℕ → Span) (C : Choosing A) (S : Spotted A) where
   -- ---- statements

@@ -58,13 +58,13 @@ module _ {A : Type 0} (tells : A → ℕ → Span) where
       → OrMembers S base of xs o N → Stands (spans_from tells base (members_layout xs)) ps → (N → Stepped W true ps o.changes (members_toks o.tree)) → Stepped W true ps o.changes (members_toks o.tree)
   or_members nowhere C W suit base of xs o ps w h go = go w
   or_members (spotted s) C W suit base of xs o ps w h go =
-      elim w [ inl x ↦ go x | inr x ↦ list_woven ps o.changes (members_toks o.tree) (suit.members base of xs o ps x h) ]
+      elim w [ inl x ↦ go x.1 | inr x ↦ list_woven ps o.changes (members_toks o.tree) (suit.members base of xs o ps x h) ]
 
   or_class : (S : Spotted A) (C : Choosing A) (W : Weaving) → SpotsSuit tells C W S → {N : Type 0} (base : ℕ) (outer : Option (List ℕ)) (x : syntax.Class A) (o : Rewritten (syntax.Class A)) (ps : Tokens)
       → OrClass S base outer x o N → Stands (spans_from tells base (class_layout x)) ps → (N → Stepped W true ps o.changes (class_toks o.tree)) → Stepped W true ps o.changes (class_toks o.tree)
   or_class nowhere C W suit base outer x o ps w h go = go w
   or_class (spotted s) C W suit base outer x o ps w h go =
-      elim w [ inl y ↦ go y | inr y ↦ list_woven ps o.changes (class_toks o.tree) (suit.whole base outer x o ps y h) ]
+      elim w [ inl y ↦ go y.1 | inr y ↦ list_woven ps o.changes (class_toks o.tree) (suit.whole base outer x o ps y h) ]
 
   module _ (C : Choosing A) (S : Spotted A) (W : Weaving) (fit : AreSuitable C) (suit : SpotsSuit tells C W S) where
     in_class : {N : Type 0} (base : ℕ) (outer : Option (List ℕ)) (x : syntax.Class A) (o : Rewritten (syntax.Class A)) (ps : Tokens) → OrClass S base outer x o N

@@ -37,7 +37,7 @@ module _ {A : Type 0} (tells : A → ℕ → Span) where
       → OrList S n c base xs o N → Stands (spans_from tells base (stmts_layout xs)) ps → (N → Stepped W true ps o.changes (stmts_toks o.tree)) → Stepped W true ps o.changes (stmts_toks o.tree)
   or_list nowhere C W suit n c base xs o ps w h go = go w
   or_list (spotted s) C W suit n c base xs o ps w h go =
-      elim w [ inl x ↦ go x | inr x ↦ list_woven ps o.changes (stmts_toks o.tree) (suit.list n c base xs o ps x h) ]
+      elim w [ inl x ↦ go x.1 | inr x ↦ list_woven ps o.changes (stmts_toks o.tree) (suit.list n c base xs o ps x h) ]
 
   module _ (C : Choosing A) (S : Spotted A) (W : Weaving) (fit : AreSuitable C) (suit : SpotsSuit tells C W S) where
     in_list : {N : Type 0} (n : ℕ) (c : Context) (base : ℕ) (xs : statement.Stmts A) (o : Rewritten (statement.Stmts A)) (ps : Tokens) → OrList S n c base xs o N

@@ -54,13 +54,17 @@ operand_asks (by_cast k) = level unsigned_level
 -- what becomes of an expression of which so much is asked, which stands so where its parent begins
 -- at base; of the rest of a list of statements, whose next local has a number; of the rest of the
 -- members of a class; and of a class, by the class around it, in front of whose last brace
--- something is put
+-- something is put. Each beside what of that kind is rewritten node by node.
 pub record Spots (A : Type 0) : Type 1 where
   pub part : Asks → Context → Role → (base : ℕ) → tree.Exp A → Rewritten (tree.Exp A) → Type 0
+  pub part_stays : Asks → Context → Role → (base : ℕ) → tree.Exp A → Type 0
   pub list : (next : ℕ) → Context → (base : ℕ) → statement.Stmts A
       → Rewritten (statement.Stmts A) → Type 0
+  pub list_stays : (next : ℕ) → Context → (base : ℕ) → statement.Stmts A → Type 0
   pub members : (base : ℕ) → ClassKey → syntax.Members A → Rewritten (syntax.Members A) → Type 0
+  pub members_stay : (base : ℕ) → ClassKey → syntax.Members A → Type 0
   pub whole : (base : ℕ) → Option (List ℕ) → syntax.Class A → Rewritten (syntax.Class A) → Type 0
+  pub whole_stays : (base : ℕ) → Option (List ℕ) → syntax.Class A → Type 0
   -- whether `this` stays where no spot is; where a local stands for it, it is a spot
   pub this_stays : Type 0
 
@@ -78,19 +82,40 @@ module _ {A : Type 0} where
   abbrev pub OrPart : Spotted A → Asks → Context → Role → (base : ℕ) → tree.Exp A
       → Rewritten (tree.Exp A) → (ByNode : Type 0) → Type 0
   OrPart nowhere k c r base e o ByNode = ByNode
-  OrPart (spotted s) k c r base e o ByNode = ByNode ⊎ s.part k c r base e o
+  OrPart (spotted s) k c r base e o ByNode =
+      (s.part_stays k c r base e × ByNode) ⊎ s.part k c r base e o
 
   abbrev pub OrList : Spotted A → (next : ℕ) → Context → (base : ℕ) → statement.Stmts A
       → Rewritten (statement.Stmts A) → (ByNode : Type 0) → Type 0
   OrList nowhere n c base xs o ByNode = ByNode
-  OrList (spotted s) n c base xs o ByNode = ByNode ⊎ s.list n c base xs o
+  OrList (spotted s) n c base xs o ByNode =
+      (s.list_stays n c base xs × ByNode) ⊎ s.list n c base xs o
 
   abbrev pub OrMembers : Spotted A → (base : ℕ) → ClassKey → syntax.Members A
       → Rewritten (syntax.Members A) → (ByNode : Type 0) → Type 0
   OrMembers nowhere base of xs o ByNode = ByNode
-  OrMembers (spotted s) base of xs o ByNode = ByNode ⊎ s.members base of xs o
+  OrMembers (spotted s) base of xs o ByNode =
+      (s.members_stay base of xs × ByNode) ⊎ s.members base of xs o
 
   abbrev pub OrClass : Spotted A → (base : ℕ) → Option (List ℕ) → syntax.Class A
       → Rewritten (syntax.Class A) → (ByNode : Type 0) → Type 0
   OrClass nowhere base outer x o ByNode = ByNode
-  OrClass (spotted s) base outer x o ByNode = ByNode ⊎ s.whole base outer x o
+  OrClass (spotted s) base outer x o ByNode =
+      (s.whole_stays base outer x × ByNode) ⊎ s.whole base outer x o
+
+-- ---- a spot has to be used
+
+-- where a spot is, nothing of that kind stays: of the two that may come of a place one is left
+pub record AreApart {A : Type 0} (s : Spots A) : Type 0 where
+  pub part : (k : Asks) (c : Context) (r : Role) (base : ℕ) (e : tree.Exp A)
+      (o : Rewritten (tree.Exp A)) → s.part k c r base e o → s.part_stays k c r base e → ⊥
+  pub list : (n : ℕ) (c : Context) (base : ℕ) (xs : statement.Stmts A)
+      (o : Rewritten (statement.Stmts A)) → s.list n c base xs o → s.list_stays n c base xs → ⊥
+  pub members : (base : ℕ) (of : ClassKey) (xs : syntax.Members A)
+      (o : Rewritten (syntax.Members A)) → s.members base of xs o → s.members_stay base of xs → ⊥
+  pub whole : (base : ℕ) (outer : Option (List ℕ)) (x : syntax.Class A)
+      (o : Rewritten (syntax.Class A)) → s.whole base outer x o → s.whole_stays base outer x → ⊥
+
+abbrev pub SpotsAreApart : {A : Type 0} → Spotted A → Type 0
+SpotsAreApart nowhere = Unit {0}
+SpotsAreApart (spotted s) = AreApart s
