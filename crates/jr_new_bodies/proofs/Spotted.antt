@@ -16,7 +16,7 @@ use Rattle.jr_new_bodies.specs.Spotting.{PartSpot, Spotting, no_spots, at_parts,
 module _ {A : Type 0} (tells : A → ℕ → Span) (u : Unseen A) where
   pub by_node : (z : Spotting) (k : Asks) (c : Context) (r : Role) (base : ℕ) (e : tree.Exp A) (o : Rewritten (tree.Exp A)) (N : Type 0) → PartStays tells z k base e → N → OrPart (spots_of tells u z) k c r base e o N
   by_node no_spots k c r base e o N stays x = x
-  by_node (at_parts ps) k c r base e o N stays x = inl x
+  by_node (at_parts ps) k c r base e o N stays x = inl (stays, x)
 
   pub by_spot : (z : Spotting) (least : ℕ) (c : Context) (r : Role) (base : ℕ) (e : tree.Exp A) (p : PartSpot) (N : Type 0) → part_at (tells (exp_mark e) base) z ≡ Some p
       → OrPart (spots_of tells u z) (level least) c r base e (part_out p least (u.part p.at least)) N
@@ -29,7 +29,7 @@ module _ {A : Type 0} (tells : A → ℕ → Span) (u : Unseen A) where
 
   pub list_by_node : (z : Spotting) (n : ℕ) (c : Context) (base : ℕ) (xs : statement.Stmts A) (o : Rewritten (statement.Stmts A)) (N : Type 0) → N → OrList (spots_of tells u z) n c base xs o N
   list_by_node no_spots n c base xs o N x = x
-  list_by_node (at_parts ps) n c base xs o N x = inl x
+  list_by_node (at_parts ps) n c base xs o N x = inl (tt, x)
 
 -- ---- as the code asks for them
 

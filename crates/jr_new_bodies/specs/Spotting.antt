@@ -93,8 +93,12 @@ module _ {A : Type 0} (tells : A → ℕ → Span) (u : Unseen A) where
   spots_of no_spots = nowhere
   spots_of (at_parts ps) = spotted (record {
     part = λ k c r base e o. PartComes (at_parts ps) k base e o;
+    part_stays = λ k c r base e. PartStays tells (at_parts ps) k base e;
     list = λ n c base xs o. ⊥;
+    list_stays = λ n c base xs. Unit {0};
     members = λ base of xs o. ⊥;
+    members_stay = λ base of xs. Unit {0};
     whole = λ base outer x o. ⊥;
+    whole_stays = λ base outer x. Unit {0};
     this_stays = Unit {0};
   })
