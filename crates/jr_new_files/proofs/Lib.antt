@@ -24,7 +24,7 @@ mod Standing
 mod Placing
 mod ImagesStay
 mod Unmoved
-mod Namesakes
+pub mod Namesakes
 mod Passing
 mod AskedBinds
 mod NothingBroken
