@@ -12,7 +12,7 @@ use Rattle.jr_code.specs.RunKeys.{RunKeys, Place}
 use Rattle.jr_cover.specs.Facts.{Variable, is_local, is_static_field, is_instance_field}
 use Rattle.jr_cover.specs.Ways.{Way, pass, row, fork, sites_of}
 use Rattle.jr_cover.specs.Sites as sites
-use Rattle.jr_cover.specs.Sites.{What, Site, Known, at_place, is_class_name, exp_way, exps_way, receiver_way, operand_way}
+use Rattle.jr_cover.specs.Sites.{What, Site, Known, at_place, is_class_name, exp_way, exps_way, operand_way}
 use Rattle.jr_cover.specs.Spots.{Spot, onto, spot_exp, spot_exps}
 use Rattle.jr_expr_sites.specs.Meanings as meaning
 use Rattle.jr_expr_sites.specs.Meanings.{Meaning, local, field, class, nothing, is_class, field_variable, variable_of}

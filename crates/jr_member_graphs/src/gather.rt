@@ -1,10 +1,9 @@
 //! The walk over a member's statements (JLS 14) that gathers what the flags of its locals are made
 //! of: the steps of expressions, among which are the writes, and what locals begin with.
 ghost use Rattle.std.specs.Prelude.{◌≡◌, ◌++◌, ◌∷◌, [], IfOk, OnOk, option_map};
-ghost use Rattle.jr_ast.specs.View.{args_of, else_of, expr_of, exprs_of, stmt_of, stmts_of};
+ghost use Rattle.jr_ast.specs.View.{args_of, else_of, expr_of, stmt_of, stmts_of};
 ghost use Rattle.jr_bind_expr.specs.Fits.{FitsElse, FitsExp, FitsMaybe, FitsStmt, FitsStmts};
 ghost use Rattle.jr_cfg.specs.MemberRoutes.{FitsArgs};
-ghost use Rattle.jr_cfg.specs.StatementRoutes.{IsLastOf};
 ghost use Rattle.jr_expr_sites.specs.KnownFacts.{meaning_at};
 ghost use Rattle.jr_expr_sites.specs.Routes.{begins_by};
 ghost use Rattle.jr_expr_sites.specs.StepView.{given};

@@ -1,8 +1,7 @@
 -- A walk down a path of pieces, step by step.
-use Rattle.std.proofs.Common.{◌≡◌, ℕ, zero, suc, ◌+◌, ◌<◌, ◌≤◌, List, [], ◌∷◌, ◌++◌, length, get_or, take, drop, Option, Some, None, option_map, refl, sym, ap, subst, ◌∙◌, arith, add-one, drop-cons}
+use Rattle.std.proofs.Common.{◌≡◌, ℕ, ◌+◌, ◌<◌, ◌≤◌, List, [], ◌∷◌, ◌++◌, length, get_or, take, drop, Option, Some, None, option_map, refl, sym, ap, subst, ◌∙◌, arith, add-one, drop-cons}
 use Rattle.std.specs.Prelude.{option_and_then, unwrap_or, IfSome}
 use Rattle.std.proofs.lemmas.List.{drop_all, take_all, take_more}
-use Rattle.std.proofs.lemmas.Option.{none-some, same_Some}
 use Rattle.jr_text.specs.declared.spans.Span.{Span}
 use Rattle.jr_ast.specs.Nodes as nodes
 use Rattle.jr_ast.specs.Nodes.{Node, child_of}

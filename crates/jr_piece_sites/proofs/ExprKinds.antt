@@ -1,19 +1,16 @@
 -- What an expression is to its parts, on its spots. Each lemma is by cases on the kind.
-use Rattle.std.proofs.Common.{◌≡◌, ℕ, zero, suc, pred, ◌+◌, Bool, true, false, ◌&&◌, List, [], ◌∷◌, ◌++◌, is_none, refl, arith}
+use Rattle.std.proofs.Common.{◌≡◌, ℕ, pred, ◌+◌, Bool, List, [], ◌∷◌, ◌++◌, refl, arith}
 use Rattle.jr_text.specs.declared.spans.Span.{Span}
 use Rattle.jr_ast.specs.Tree as tree
 use Rattle.jr_ast.specs.Marks.{exp_mark}
-use Rattle.jr_table.specs.Rows.{Row}
 use Rattle.jr_bind_expr.specs.Fits.{FitsExp, FitsTarget, FitsExps}
-use Rattle.jr_cover.specs.Sites as sites
 use Rattle.jr_cover.specs.Spots.{spot_exp, spot_exps}
 use Rattle.jr_cover.specs.Ways.{size}
-use Rattle.jr_expr_sites.specs.KnownFacts.{Given, Others, known_of, meaning_at}
-use Rattle.jr_expr_sites.specs.Meanings.{Meaning, local, field, class, nothing, is_class, variable_of}
+use Rattle.jr_expr_sites.specs.KnownFacts.{Given, Others, known_of}
 use Rattle.jr_expr_sites.specs.Routes as route
 use Rattle.jr_expr_sites.specs.Routes.{begins_by, ends_by, spots}
 use Rattle.jr_piece_sites.specs.Fronts.{one_if, behind_first, in_front_of_second, exps_front, exp_front}
-use Rattle.jr_piece_sites.specs.Parts.{Between, changed, Parts, leaf, named, on_super, dotted, one, two, row, parts_of}
+use Rattle.jr_piece_sites.specs.Parts.{changed, Parts, leaf, named, dotted, one, two, row, parts_of}
 
 zero_plus : (n : ℕ) → 0 + n ≡ n
 zero_plus n = omega arith
@@ -30,9 +27,8 @@ module _ {A : Type 0} (tells : A → ℕ → Span) where
   module _ (F : A → ℕ → Type 0) where
     abbrev pub FitsParts : (at : ℕ) → Parts A → Type 0
     FitsParts at leaf = Unit {0}
-    FitsParts at (named w) = F w.mark at
-    FitsParts at on_super = Unit {0}
-    FitsParts at (dotted e w) = FitsExp B F at e × F w.mark at
+    FitsParts at named = Unit {0}
+    FitsParts at (dotted e) = Unit {0}
     FitsParts at (one k e) = Unit {0}
     FitsParts at (two b l r) = FitsExp B F at l
     FitsParts at (row c to es) = FitsTarget B F at to × FitsExps B F at es
@@ -43,8 +39,8 @@ module _ {A : Type 0} (tells : A → ℕ → Span) where
     parts_fit base (tree.truth m b) f = tt
     parts_fit base (tree.null m) f = tt
     parts_fit base (tree.string m s) f = tt
-    parts_fit base (tree.name m w) f = f.1
-    parts_fit base (tree.field m e w) f = (f.1, f.2)
+    parts_fit base (tree.name m w) f = tt
+    parts_fit base (tree.field m e w) f = tt
     parts_fit base (tree.super_field m w) f = tt
     parts_fit base (tree.this m) f = tt
     parts_fit base (tree.class_literal m t) f = tt
@@ -65,9 +61,8 @@ module _ {A : Type 0} (tells : A → ℕ → Span) where
     -- of what is changed; n: of its evaluation for its value
     abbrev pub read_by : (n : ℕ) → Parts A → ℕ
     read_by n leaf = 0
-    read_by n (named w) = n
-    read_by n on_super = n
-    read_by n (dotted e w) = n
+    read_by n named = n
+    read_by n (dotted e) = n
     read_by n (one k e) = 0
     read_by n (two b l r) = 0
     read_by n (row c t es) = 0
@@ -102,9 +97,8 @@ module _ {A : Type 0} (tells : A → ℕ → Span) where
 
     abbrev pub front_by : (at i : ℕ) → Parts A → ℕ
     front_by at i leaf = 0
-    front_by at i (named w) = 0
-    front_by at i on_super = 0
-    front_by at i (dotted e w) = 0
+    front_by at i named = 0
+    front_by at i (dotted e) = 0
     front_by at i (one k e) = 0
     front_by at i (two b l r) = behind_first i (in_front_of_second (known_of g o) b (spots tells (path ++ 0 ∷ []) at l))
     front_by at i (row c t es) = row_by at i c t es

@@ -1,5 +1,5 @@
 -- The places of a piece's parts fit where the piece begins.
-use Rattle.std.proofs.Common.{◌≡◌, ℕ, zero, suc, List, length, Option, Some, None, option_map, sym, subst}
+use Rattle.std.proofs.Common.{ℕ, zero, suc, length, Option, Some, None, option_map, sym, subst}
 use Rattle.jr_text.specs.declared.spans.Span.{Span}
 use Rattle.jr_ast.specs.Tree as tree
 use Rattle.jr_ast.specs.StatementTree as statement
@@ -8,9 +8,9 @@ use Rattle.jr_ast.specs.Marks.{exp_mark, stmt_mark, member_mark}
 use Rattle.jr_bind_expr.specs.Fits.{FitsExp, FitsTarget, FitsExps, FitsMaybe, FitsStmt, FitsElse, FitsStmts}
 use Rattle.jr_cfg.specs.MemberRoutes.{FitsSites, FitsArgs}
 use Rattle.jr_expr_sites.specs.Routes.{begins_by}
-use Rattle.jr_piece_sites.specs.Parts.{behind, nth, nth_behind, only}
+use Rattle.jr_piece_sites.specs.Parts.{behind, nth, nth_behind}
 use Rattle.jr_piece_sites.specs.Pieces as piece
-use Rattle.jr_piece_sites.specs.Pieces.{Piece, mark_of, part_of, nth_stmt, nth_exp, else_stmt, exps_then, in_constructor, maybe_at, as_only, method_front, constructor_front, FitsPiece}
+use Rattle.jr_piece_sites.specs.Pieces.{Piece, mark_of, part_of, nth_stmt, nth_exp, exps_then, in_constructor, maybe_at, as_only, method_front, constructor_front, FitsPiece}
 use Rattle.jr_piece_sites.proofs.Spotting.{behind_map}
 
 module _ {A : Type 0} (tells : A → ℕ → Span) (F : A → ℕ → Type 0) where

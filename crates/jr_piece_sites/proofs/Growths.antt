@@ -1,5 +1,5 @@
 -- Walks over what stands in front of a part, one behind the other.
-use Rattle.std.proofs.Common.{◌≡◌, ℕ, zero, suc, pred, ◌+◌, ◌-◌, ◌≤◌, Bool, true, false, not, List, [], ◌∷◌, ◌++◌, refl, sym, ap, subst, ◌∙◌, arith}
+use Rattle.std.proofs.Common.{◌≡◌, ℕ, zero, suc, pred, ◌+◌, ◌-◌, ◌≤◌, Bool, true, false, not, refl, sym, ap, ◌∙◌, arith}
 use Rattle.std.specs.Prelude.{Result, Ok, Err, IfOk}
 use Rattle.jr_ast.specs.Tree as tree
 use Rattle.jr_ast.specs.StatementTree as statement
@@ -11,7 +11,7 @@ use Rattle.jr_cover.specs.Sites.{Known, What, at_place, unless, exp_way, stmt_wa
 use Rattle.jr_expr_sites.specs.KnownFacts.{Given, Others}
 use Rattle.jr_expr_sites.specs.Routes.{Route, Steps}
 use Rattle.jr_cfg.specs.StatementRoutes.{Passed}
-use Rattle.jr_piece_sites.specs.Fronts.{one_if, behind_first, stmts_front, branch_front}
+use Rattle.jr_piece_sites.specs.Fronts.{one_if, behind_first, branch_front}
 use Rattle.jr_piece_sites.specs.Growth.{count, Grows, GrownTo}
 use Rattle.jr_piece_sites.specs.Pieces.{locals_up_to, branch_locals}
 use Rattle.jr_piece_sites.proofs.Counting.{way_grows, stays}

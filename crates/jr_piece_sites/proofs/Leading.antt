@@ -4,7 +4,6 @@ use Rattle.std.proofs.Common.{◌≡◌, ◌⊎◌, inl, inr, ℕ, zero, suc, Li
 use Rattle.std.specs.Prelude.{option_and_then}
 use Rattle.std.specs.List.{slice_get}
 use Rattle.std.proofs.lemmas.Option.{none-some, same_Some}
-use Rattle.jr_text.specs.declared.spans.Span.{Span}
 use Rattle.jr_ast.specs.Tree as tree
 use Rattle.jr_ast.specs.StatementTree as statement
 use Rattle.jr_ast.specs.MemberTree as declared
@@ -12,11 +11,11 @@ use Rattle.jr_ast.specs.Nodes as nodes
 use Rattle.jr_ast.specs.Nodes.{Node, node_at, exp_at, stmt_at, child_of, children_of, maybe, type_children}
 use Rattle.jr_runs.specs.Keys.{Keys}
 use Rattle.jr_cover.specs.Ways.{sites_of}
-use Rattle.jr_cover.specs.Sites.{Known, Site, stmts_way, stmt_way}
+use Rattle.jr_cover.specs.Sites.{Known, stmts_way}
 use Rattle.jr_piece_sites.specs.PartSites.{part_sites, parts_sites}
 use Rattle.jr_piece_sites.specs.Pieces as piece
 use Rattle.jr_piece_sites.specs.Pieces.{Piece, node_of, part_of, piece_at, IsOwner}
-use Rattle.jr_piece_sites.specs.Leads.{AreParts, AllStmts, IsStmt}
+use Rattle.jr_piece_sites.specs.Leads.{AllStmts, IsStmt}
 use Rattle.jr_piece_sites.proofs.PartRows.{as_piece, child_is}
 
 module _ {A : Type 0} where

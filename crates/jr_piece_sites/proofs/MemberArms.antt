@@ -1,14 +1,12 @@
 -- What stands in front of a part of each kind of member, where places and parts are shown as they are.
-use Rattle.std.proofs.Common.{◌≡◌, ℕ, zero, suc, pred, ◌+◌, ◌-◌, ◌<◌, ◌≤◌, Bool, ◌||◌, List, [], ◌∷◌, ◌++◌, length, map, Option, Some, None, refl, sym, ap, subst, ◌∙◌, arith}
-use Rattle.std.specs.List.{list_any}
+use Rattle.std.proofs.Common.{◌≡◌, ℕ, zero, suc, ◌+◌, ◌-◌, ◌<◌, ◌≤◌, ◌||◌, List, [], ◌∷◌, length, Option, refl, sym, ap, subst, ◌∙◌, arith}
 use Rattle.jr_text.specs.declared.spans.Span.{Span}
 use Rattle.jr_ast.specs.Tree as tree
 use Rattle.jr_ast.specs.StatementTree as statement
 use Rattle.jr_ast.specs.MemberTree as declared
 use Rattle.jr_ast.specs.declared.exprs.Expr.{Expr}
-use Rattle.jr_ast.specs.declared.parts.Modifier.{Modifier}
 use Rattle.jr_ast.specs.Nodes.{exps}
-use Rattle.jr_ast.specs.View.{exprs_of, modifier_of}
+use Rattle.jr_ast.specs.View.{exprs_of}
 use Rattle.jr_runs.specs.MemberTranslation.{is_synchronized, is_synchronized_word}
 use Rattle.jr_cover.specs.Spots.{Spot, spot_exps, spot_stmts, spot_args, spot_modifiers, spot_params, spot_result, spot_member, result_count, args_count}
 use Rattle.jr_cfg.specs.Numbering.{NumbersStmts}
@@ -17,14 +15,14 @@ use Rattle.jr_expr_sites.specs.KnownFacts.{Given, Others, known_of}
 use Rattle.jr_code.specs.RunKeys.{RunKeys}
 use Rattle.jr_cover.specs.Sites.{Known}
 use Rattle.jr_expr_sites.specs.Routes.{Steps, begins_by, ends_by}
-use Rattle.jr_piece_sites.specs.Fronts.{one_if, exps_front, stmts_front, method_body, constructor_body, exps_then_front, member_front}
+use Rattle.jr_piece_sites.specs.Fronts.{exps_front, stmts_front, method_body, constructor_body, exps_then_front, member_front}
 use Rattle.jr_piece_sites.specs.Growth.{GrownTo}
 use Rattle.jr_piece_sites.specs.Parts.{behind}
 use Rattle.jr_piece_sites.specs.Pieces as piece
 use Rattle.jr_piece_sites.specs.Pieces.{method_front, constructor_front, arguments, locals_up_to, exps_then_locals, constructor_locals, member_locals, NumbersPiece}
 use Rattle.jr_piece_sites.proofs.Counting.{stays}
 use Rattle.jr_piece_sites.proofs.Growths.{to_as}
-use Rattle.jr_piece_sites.proofs.Spotting.{method_number, arguments_are, modifiers_size, params_size, result_size, result_is}
+use Rattle.jr_piece_sites.proofs.Spotting.{method_number, arguments_are, modifiers_size, params_size, result_size}
 
 -- ---- arguments, and then statements
 

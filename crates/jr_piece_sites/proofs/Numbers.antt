@@ -1,5 +1,5 @@
 -- Locals of a piece's parts have their numbers behind those of the parts in front.
-use Rattle.std.proofs.Common.{◌≡◌, ℕ, zero, suc, pred, ◌+◌, List, [], length, Option, Some, None, option_map, refl, sym, subst, arith}
+use Rattle.std.proofs.Common.{◌≡◌, ℕ, zero, suc, ◌+◌, List, [], length, Option, Some, None, option_map, sym, subst, arith}
 use Rattle.jr_text.specs.declared.spans.Span.{Span}
 use Rattle.jr_ast.specs.Tree as tree
 use Rattle.jr_ast.specs.StatementTree as statement
@@ -7,13 +7,13 @@ use Rattle.jr_ast.specs.MemberTree as declared
 use Rattle.jr_ast.specs.Marks.{exp_mark, stmt_mark, member_mark}
 use Rattle.jr_ast.specs.Nodes.{exps}
 use Rattle.jr_table.specs.Context.{locals_in}
-use Rattle.jr_cover.specs.Spots.{onto, result_count, args_count}
+use Rattle.jr_cover.specs.Spots.{onto, args_count}
 use Rattle.jr_expr_sites.specs.KnownFacts.{Others}
 use Rattle.jr_expr_sites.specs.Routes.{begins_by, ends_by}
 use Rattle.jr_cfg.specs.Numbering.{NumbersStmt, NumbersElse, NumbersStmts}
 use Rattle.jr_piece_sites.specs.Parts.{behind, parts_of, exp_in}
 use Rattle.jr_piece_sites.specs.Pieces as piece
-use Rattle.jr_piece_sites.specs.Pieces.{Piece, mark_of, part_of, nth_stmt, nth_exp, else_stmt, exps_then, in_constructor, maybe_at, as_only, method_front, constructor_front, arguments, locals_up_to, exps_then_locals, constructor_locals, member_locals, stmt_locals, first_number, NumbersPiece}
+use Rattle.jr_piece_sites.specs.Pieces.{Piece, mark_of, part_of, nth_stmt, exps_then, in_constructor, maybe_at, method_front, constructor_front, arguments, locals_up_to, exps_then_locals, constructor_locals, member_locals, stmt_locals, first_number, NumbersPiece}
 use Rattle.jr_piece_sites.proofs.Spotting.{method_number, arguments_are}
 
 module _ {A : Type 0} (tells : A → ℕ → Span) (o : Others) where

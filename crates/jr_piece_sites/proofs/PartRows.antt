@@ -1,5 +1,5 @@
 -- The parts of a piece are its children that are expressions or statements, by their numbers.
-use Rattle.std.proofs.Common.{◌≡◌, ℕ, zero, suc, ◌+◌, List, [], ◌∷◌, ◌++◌, length, map, Option, Some, None, option_map, refl, sym, ap, ◌∙◌, arith}
+use Rattle.std.proofs.Common.{◌≡◌, ℕ, zero, suc, ◌+◌, List, [], ◌∷◌, ◌++◌, length, map, Option, Some, None, option_map, refl, ap, ◌∙◌, arith}
 use Rattle.std.specs.Prelude.{option_and_then}
 use Rattle.std.specs.List.{slice_get}
 use Rattle.std.proofs.lemmas.List.{length-map}
@@ -7,10 +7,10 @@ use Rattle.jr_ast.specs.Tree as tree
 use Rattle.jr_ast.specs.StatementTree as statement
 use Rattle.jr_ast.specs.MemberTree as declared
 use Rattle.jr_ast.specs.Nodes as nodes
-use Rattle.jr_ast.specs.Nodes.{Node, exps, stmts, maybe, exp_children, stmt_children, member_children, args_children, else_children, children_of, child_of}
-use Rattle.jr_piece_sites.specs.Parts.{behind, parts_of, exp_in, nth, nth_behind, only, in_call}
+use Rattle.jr_ast.specs.Nodes.{Node, exps, stmts, maybe, exp_children, stmt_children, member_children, args_children, child_of}
+use Rattle.jr_piece_sites.specs.Parts.{behind, nth_behind, only}
 use Rattle.jr_piece_sites.specs.Pieces as piece
-use Rattle.jr_piece_sites.specs.Pieces.{Piece, node_of, part_of, nth_stmt, nth_exp, else_stmt, exps_then, in_constructor, maybe_at, as_only, method_front, constructor_front, member_part}
+use Rattle.jr_piece_sites.specs.Pieces.{Piece, node_of, part_of, nth_stmt, nth_exp, exps_then, in_constructor, maybe_at, method_front, constructor_front, member_part}
 
 module _ {A : Type 0} where
   abbrev pub as_piece : Node A → Option (Piece A)

@@ -1,5 +1,5 @@
 -- A walk over statements among the parts of a piece.
-use Rattle.std.proofs.Common.{◌≡◌, ℕ, zero, suc, ◌+◌, ◌-◌, ◌<◌, ◌≤◌, List, [], ◌∷◌, ◌++◌, Option, Some, None, option_map, refl, sym, ap, subst, ◌∙◌, append_assoc, add-one, arith}
+use Rattle.std.proofs.Common.{◌≡◌, ℕ, zero, suc, ◌+◌, ◌-◌, ◌<◌, List, [], ◌∷◌, ◌++◌, Option, Some, None, option_map, refl, sym, ap, subst, ◌∙◌, append_assoc, arith}
 use Rattle.std.specs.Prelude.{IfSome}
 use Rattle.std.proofs.lemmas.List.{append-nil}
 use Rattle.jr_text.specs.declared.spans.Span.{Span}
@@ -7,12 +7,12 @@ use Rattle.jr_ast.specs.StatementTree as statement
 use Rattle.jr_table.specs.Context.{locals_in}
 use Rattle.jr_code.specs.RunKeys.{RunKeys}
 use Rattle.jr_cover.specs.Ways.{sites_of}
-use Rattle.jr_cover.specs.Sites.{Site, Known, stmt_way}
-use Rattle.jr_cover.specs.Spots.{Spot, onto, spot_stmt}
+use Rattle.jr_cover.specs.Sites.{Site}
+use Rattle.jr_cover.specs.Spots.{Spot, onto}
 use Rattle.jr_expr_sites.specs.Steps.{sites_in, steps_of}
 use Rattle.jr_expr_sites.specs.StepView.{steps_in}
 use Rattle.jr_expr_sites.specs.KnownFacts.{Given, Others, known_of}
-use Rattle.jr_expr_sites.specs.Routes.{Steps, begins_by, ends_by}
+use Rattle.jr_expr_sites.specs.Routes.{Steps, begins_by}
 use Rattle.jr_cfg.specs.StatementRoutes as list
 use Rattle.jr_cfg.specs.StatementRoutes.{Passed, Numbered}
 use Rattle.jr_cfg.proofs.StepLaws.{sites_append, sites_of_steps}

@@ -4,7 +4,6 @@ use Rattle.std.specs.Prelude.{option_and_then}
 use Rattle.std.proofs.lemmas.Option.{none-some, same_Some}
 use Rattle.jr_text.specs.declared.spans.Span.{Span}
 use Rattle.jr_ast.specs.MemberTree as declared
-use Rattle.jr_ast.specs.Nodes as nodes
 use Rattle.jr_ast.specs.Tree as tree
 use Rattle.jr_cover.specs.Spots.{Spot, onto, spot_exp, spot_member}
 use Rattle.jr_expr_sites.specs.Routes.{begins_by, ends_by}

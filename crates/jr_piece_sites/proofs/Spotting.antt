@@ -1,17 +1,15 @@
 -- The parts of a piece on its spots are those of the piece, with their spots.
-use Rattle.std.proofs.Common.{◌≡◌, ℕ, zero, suc, ◌+◌, List, [], ◌∷◌, ◌++◌, length, Option, Some, None, option_map, refl, sym, ap, ◌∙◌, arith}
-use Rattle.std.proofs.lemmas.List.{length-map}
+use Rattle.std.proofs.Common.{◌≡◌, ℕ, zero, suc, ◌+◌, List, [], ◌∷◌, length, Option, Some, None, option_map, refl, sym, ap, ◌∙◌, arith}
 use Rattle.jr_text.specs.declared.spans.Span.{Span}
 use Rattle.jr_ast.specs.Tree as tree
 use Rattle.jr_ast.specs.StatementTree as statement
 use Rattle.jr_ast.specs.MemberTree as declared
-use Rattle.jr_ast.specs.Nodes as nodes
-use Rattle.jr_ast.specs.Nodes.{maybe, args_children, exps}
+use Rattle.jr_ast.specs.Nodes.{exps}
 use Rattle.jr_cover.specs.Spots.{Spot, onto, spot_exp, spot_exps, spot_maybe, spot_stmt, spot_else, spot_stmts, spot_member, spot_modifiers, spot_params, spot_result, result_count, spot_args, args_count, exps_count}
 use Rattle.jr_expr_sites.specs.Routes.{begins_by, ends_by}
-use Rattle.jr_piece_sites.specs.Parts.{behind, parts_of, exp_in, nth, nth_behind, only, in_call}
+use Rattle.jr_piece_sites.specs.Parts.{behind, nth, nth_behind}
 use Rattle.jr_piece_sites.specs.Pieces as piece
-use Rattle.jr_piece_sites.specs.Pieces.{Piece, mark_of, part_of, nth_stmt, nth_exp, else_stmt, exps_then, in_constructor, maybe_at, as_only, method_front, constructor_front, results, arguments, member_part, stmt_part, spotted}
+use Rattle.jr_piece_sites.specs.Pieces.{Piece, mark_of, part_of, nth_stmt, nth_exp, exps_then, in_constructor, maybe_at, as_only, method_front, constructor_front, results, arguments, member_part, stmt_part, spotted}
 
 -- ---- counting from a number on
 

@@ -12,7 +12,7 @@ use Rattle.jr_cover.specs.Ways.{size}
 use Rattle.jr_cfg.specs.Numbering.{NumbersStmt, NumbersElse, NumbersStmts}
 use Rattle.jr_cfg.specs.StatementRoutes.{Numbered, NumberedAll}
 use Rattle.jr_cfg.specs.StatementRoutes as list
-use Rattle.jr_expr_sites.specs.KnownFacts.{Given, Others, known_of}
+use Rattle.jr_expr_sites.specs.KnownFacts.{Given, known_of}
 use Rattle.jr_expr_sites.specs.Routes.{Steps, begins_by, ends_by, spots}
 use Rattle.jr_expr_sites.specs.Routes as route
 use Rattle.jr_piece_sites.specs.Fronts.{behind_first, branch_front, stmts_front, stmt_front}

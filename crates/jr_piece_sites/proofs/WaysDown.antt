@@ -1,17 +1,17 @@
 -- What stands in front on a path is what is evaluated before the expression to which the way of the
 -- path leads.
-use Rattle.std.proofs.Common.{◌≡◌, ℕ, zero, suc, pred, ◌+◌, List, [], ◌∷◌, ◌++◌, length, Option, Some, None, option_map, refl, sym, ap, subst, ◌∙◌, arith}
+use Rattle.std.proofs.Common.{◌≡◌, ℕ, suc, ◌+◌, List, ◌∷◌, ◌++◌, length, Option, Some, option_map, refl, sym, ap, ◌∙◌, arith}
 use Rattle.std.specs.Prelude.{unwrap_or}
 use Rattle.std.proofs.lemmas.List.{length-append}
 use Rattle.jr_ast.specs.Tree as tree
 use Rattle.jr_ast.specs.StatementTree as statement
 use Rattle.jr_runs.specs.Keys.{Keys}
-use Rattle.jr_cover.specs.Ways.{Way, sites_of, size, row}
+use Rattle.jr_cover.specs.Ways.{sites_of, row}
 use Rattle.jr_cover.specs.Sites.{Site, Known, exp_way, receiver_way, operand_way, target_load, stmt_way}
 use Rattle.jr_cfg.proofs.StepLaws.{sites_size}
 use Rattle.jr_pieces.specs.Ways.{ExpWay, here, in_front, in_target, in_argument, in_super_argument, in_created, in_paren, in_cast, in_unary, in_bump, in_left, in_right, in_assigned, in_value, in_changed, in_change, ExpsWay, first_argument, later_argument}
 use Rattle.jr_pieces.specs.Ways.{StmtWay, in_init, in_eval, in_condition, in_then, in_else, in_turning, in_body, in_returned, in_block, in_lock, in_locked, ListWay, first, later}
-use Rattle.jr_pieces.specs.Before.{lock_check, locked, exp_before, exps_before, stmt_before, list_before}
+use Rattle.jr_pieces.specs.Before.{locked, exp_before, exps_before, stmt_before, list_before}
 use Rattle.jr_pieces.specs.Finding.{exp_path, exps_path, stmt_path, list_path}
 use Rattle.jr_piece_sites.specs.Fronts.{before, front, exps_front, stmts_front}
 use Rattle.jr_piece_sites.specs.Parts.{nth}

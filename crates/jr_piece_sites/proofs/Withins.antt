@@ -1,6 +1,6 @@
 -- The way of a statement to which a path leads stands in that of the piece from which it leads, behind
 -- as many sites as stand in front on the path.
-use Rattle.std.proofs.Common.{◌≡◌, ℕ, zero, suc, pred, ◌+◌, Bool, true, false, List, [], ◌∷◌, length, Option, Some, None, option_map, refl, sym, ap, subst, ◌∙◌, arith}
+use Rattle.std.proofs.Common.{◌≡◌, ℕ, zero, suc, ◌+◌, Bool, true, false, List, [], ◌∷◌, length, Option, Some, None, option_map, sym, ap, subst, arith}
 use Rattle.std.specs.Prelude.{option_and_then, unwrap_or}
 use Rattle.std.proofs.lemmas.Option.{none-some, same_Some}
 use Rattle.jr_ast.specs.Tree as tree
@@ -14,10 +14,10 @@ use Rattle.jr_cover.specs.Sites.{What, Site, at_place, Known, exp_way, exps_way,
 use Rattle.jr_effect.specs.Within.{Within, whole, row_first, row_second, fork_first, fork_second, turned}
 use Rattle.jr_effect.specs.Within as within
 use Rattle.jr_pieces.specs.Before.{lock_check}
-use Rattle.jr_piece_sites.specs.Fronts.{before, front, stmts_front, method_body, constructor_body, exps_then_front}
+use Rattle.jr_piece_sites.specs.Fronts.{before, stmts_front, method_body, constructor_body, exps_then_front}
 use Rattle.jr_piece_sites.specs.Parts.{behind, parts_of, exp_in}
 use Rattle.jr_piece_sites.specs.Pieces as piece
-use Rattle.jr_piece_sites.specs.Pieces.{Piece, part_of, piece_at, nth_stmt, exps_then, in_constructor, maybe_at, method_front, constructor_front}
+use Rattle.jr_piece_sites.specs.Pieces.{Piece, piece_at, nth_stmt, exps_then, in_constructor, maybe_at, method_front, constructor_front}
 
 module _ {A : Type 0} where
   -- from a part on

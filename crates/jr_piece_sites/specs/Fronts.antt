@@ -16,7 +16,7 @@ use Rattle.jr_cover.specs.Sites.{
   stmt_way,
 }
 use Rattle.jr_pieces.specs.Before.{lock_check}
-use Rattle.jr_piece_sites.specs.Parts.{behind, Between, valued, assigned, changed, Parts, leaf, named, on_super, dotted, one, two, row, parts_of}
+use Rattle.jr_piece_sites.specs.Parts.{behind, Between, valued, assigned, changed, Parts, leaf, named, dotted, one, two, row, parts_of}
 use Rattle.jr_piece_sites.specs.Pieces as piece
 use Rattle.jr_piece_sites.specs.Pieces.{Piece, part_of, method_front, constructor_front}
 
@@ -51,9 +51,8 @@ module _ {K : Keys} {A : Type 0} (X : Known K A) where
 
   abbrev pub exp_front : Parts A → ℕ → ℕ
   exp_front leaf i = 0
-  exp_front (named w) i = 0
-  exp_front on_super i = 0
-  exp_front (dotted e w) i = 0
+  exp_front named i = 0
+  exp_front (dotted e) i = 0
   exp_front (one k e) i = 0
   exp_front (two b l r) i = behind_first i (in_front_of_second b l)
   exp_front (row c t es) i = row_front c t es i

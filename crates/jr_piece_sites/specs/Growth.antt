@@ -1,5 +1,5 @@
 -- How many sites a walk over what stands in front of a part has put.
-use Rattle.std.specs.Prelude.{◌≡◌, ℕ, ◌+◌, List, length}
+use Rattle.std.specs.Prelude.{◌≡◌, ℕ, ◌+◌, length}
 use Rattle.jr_expr_sites.specs.Steps.{sites_in}
 use Rattle.jr_expr_sites.specs.StepView.{steps_in}
 use Rattle.jr_expr_sites.specs.KnownFacts.{Given, Others}

@@ -12,10 +12,9 @@ pub data Between : Type 0 where
 
 pub data Parts (A : Type 0) : Type 0 where
   leaf : Parts A
-  -- a simple name; a name behind `super`; a name behind a dot
-  named : (word : tree.Word A) → Parts A
-  on_super : Parts A
-  dotted : (front : tree.Exp A) (word : tree.Word A) → Parts A
+  -- a simple name, or one behind `super`; a name behind a dot
+  named : Parts A
+  dotted : (front : tree.Exp A) → Parts A
   -- one part, of this number
   one : (number : ℕ) (of : tree.Exp A) → Parts A
   two : (between : Between) (first second : tree.Exp A) → Parts A
@@ -34,9 +33,9 @@ module _ {A : Type 0} where
   parts_of (tree.truth m b) = leaf
   parts_of (tree.null m) = leaf
   parts_of (tree.string m s) = leaf
-  parts_of (tree.name m w) = named w
-  parts_of (tree.field m e w) = dotted e w
-  parts_of (tree.super_field m w) = on_super
+  parts_of (tree.name m w) = named
+  parts_of (tree.field m e w) = dotted e
+  parts_of (tree.super_field m w) = named
   parts_of (tree.this m) = leaf
   parts_of (tree.class_literal m t) = leaf
   parts_of (tree.call m t w es) = row false t es
@@ -79,9 +78,8 @@ module _ {A : Type 0} where
   -- the part of this number, if it is an expression
   abbrev pub exp_in : Parts A → ℕ → Option (tree.Exp A)
   exp_in leaf i = None
-  exp_in (named w) i = None
-  exp_in on_super i = None
-  exp_in (dotted e w) i = only 0 e i
+  exp_in named i = None
+  exp_in (dotted e) i = only 0 e i
   exp_in (one k e) i = only k e i
   exp_in (two b l r) i = in_two l r i
   exp_in (row c t es) i = in_row t es i

@@ -1,6 +1,6 @@
 -- The pure parts of an expression that references stand for.
 use Rattle.std.specs.Prelude.{false}
-use Rattle.jr_ast.specs.View.{word_of, expr_of, exprs_of}
+use Rattle.jr_ast.specs.View.{expr_of, exprs_of}
 use Rattle.jr_ast.specs.Tree as tree
 use Rattle.jr_piece_sites.specs.declared.parts.Between as raw_between
 use Rattle.jr_piece_sites.specs.declared.parts.Between.TheVariants as manner
@@ -15,9 +15,8 @@ between_of manner.Changed = parts.changed
 
 abbrev pub parts_view : {A : Type 0} → raw.Parts A → parts.Parts A
 parts_view form.Leaf = parts.leaf
-parts_view (form.Named w) = parts.named (word_of w.now)
-parts_view form.OnSuper = parts.on_super
-parts_view (form.Dotted e w) = parts.dotted (expr_of e.now) (word_of w.now)
+parts_view form.Named = parts.named
+parts_view (form.Dotted e) = parts.dotted (expr_of e.now)
 parts_view (form.One k e) = parts.one k (expr_of e.now)
 parts_view (form.Two b l r) = parts.two (between_of b) (expr_of l.now) (expr_of r.now)
 parts_view (form.Row c es) = parts.row c tree.no_target (exprs_of es.now)

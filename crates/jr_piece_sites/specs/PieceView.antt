@@ -1,6 +1,5 @@
 -- The pure pieces and parts that references stand for.
-use Rattle.jr_ast.specs.View.{word_of, expr_of, exprs_of, stmt_of, member_of}
-use Rattle.jr_ast.specs.Tree as tree
+use Rattle.jr_ast.specs.View.{expr_of, stmt_of, member_of}
 use Rattle.jr_piece_sites.specs.declared.pieces.Piece as raw
 use Rattle.jr_piece_sites.specs.declared.pieces.Piece.TheVariants as variant
 use Rattle.jr_piece_sites.specs.Pieces as piece

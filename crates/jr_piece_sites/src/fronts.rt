@@ -1,8 +1,7 @@
 //! What stands in front of a part of an expression, in evaluation order (JLS 15.7).
-ghost use Rattle.std.specs.Prelude.{◌≡◌, ◌+◌, ◌++◌, ◌∷◌, [], ℕ, IfOk, OnOk, pred, take};
+ghost use Rattle.std.specs.Prelude.{◌≡◌, ◌+◌, ◌++◌, ◌∷◌, [], OnOk, pred, take};
 ghost use Rattle.jr_ast.specs.View.{expr_of, exprs_of};
 ghost use Rattle.jr_bind_expr.specs.Fits.{FitsExp, FitsExps};
-ghost use Rattle.jr_cover.specs.Sites as sites;
 ghost use Rattle.jr_cover.specs.Spots.{spot_exps};
 ghost use Rattle.jr_cover.specs.Ways.{size};
 ghost use Rattle.jr_expr_sites.specs.KnownFacts.{Given, known_of};
@@ -66,9 +65,8 @@ fn put_read<'a, F: Facts, A: Mark>(
         out.old.items out.new.items) }
 {
     match parts_of(to) {
-        Parts::Named(_) => operand(alloc, here, path, 0, at, to, out),
-        Parts::OnSuper => operand(alloc, here, path, 0, at, to, out),
-        Parts::Dotted(_, _) => operand(alloc, here, path, 0, at, to, out),
+        Parts::Named => operand(alloc, here, path, 0, at, to, out),
+        Parts::Dotted(_) => operand(alloc, here, path, 0, at, to, out),
         Parts::Leaf => Ok(()),
         Parts::One(_, _) => Ok(()),
         Parts::Two(_, _, _) => Ok(()),
@@ -260,9 +258,8 @@ pub(crate) fn expr_front<'a, F: Facts, A: Mark>(
     let at = of.mark.span(base).from;
     match parts_of(of) {
         Parts::Leaf => Ok(()),
-        Parts::Named(_) => Ok(()),
-        Parts::OnSuper => Ok(()),
-        Parts::Dotted(_, _) => Ok(()),
+        Parts::Named => Ok(()),
+        Parts::Dotted(_) => Ok(()),
         Parts::One(_, _) => Ok(()),
         Parts::Two(between, first, _) => {
             put_two_front(alloc, here, path, at, between, first, number, out)

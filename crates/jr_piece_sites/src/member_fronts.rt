@@ -3,7 +3,7 @@ ghost use Rattle.std.specs.Prelude.{◌≡◌, ◌+◌, ◌<◌, IfOk, length, m
 ghost use Rattle.jr_ast.specs.View.{args_of, exprs_of, member_of, modifier_of, param_of};
 ghost use Rattle.jr_ast.specs.View.{stmts_of, type_of};
 ghost use Rattle.jr_bind_expr.specs.Fits.{FitsExps, FitsStmts};
-ghost use Rattle.jr_cfg.specs.MemberRoutes.{FitsArgs, FitsSites, NumbersMember};
+ghost use Rattle.jr_cfg.specs.MemberRoutes.{FitsArgs, FitsSites};
 ghost use Rattle.jr_cfg.specs.StatementRoutes.{NumberedAll};
 ghost use Rattle.jr_cover.specs.Spots.{spot_args, spot_exps, spot_member, spot_stmts};
 ghost use Rattle.jr_expr_sites.specs.KnownFacts.{known_of};

@@ -4,7 +4,7 @@ ghost use Rattle.jr_ast.specs.View.{expr_of, exprs_of};
 ghost use Rattle.jr_piece_sites.specs.Parts as pure;
 ghost use Rattle.jr_piece_sites.specs.PartsView.{parts_view};
 
-use jr_ast::{Expr, ExprKind, Ident};
+use jr_ast::{Expr, ExprKind};
 use std::alloc::AllocError;
 
 /// How the first of two parts is evaluated in front of the second.
@@ -21,10 +21,10 @@ pub(crate) enum Between {
 /// What an expression is to its parts.
 pub(crate) enum Parts<'a, A> {
     Leaf,
-    Named(&'a Ident<A>),
-    OnSuper,
-    /// What stands in front of a dot, and the name behind it.
-    Dotted(&'a Expr<A>, &'a Ident<A>),
+    /// A simple name, or one behind `super`.
+    Named,
+    /// A name behind a dot: what stands in front.
+    Dotted(&'a Expr<A>),
     /// One part, of this number.
     One(u32, &'a Expr<A>),
     Two(Between, &'a Expr<A>, &'a Expr<A>),
@@ -58,9 +58,9 @@ pub(crate) fn parts_of<A>(of: &Expr<A>) -> Parts<'_, A>
         ExprKind::Text(_) => Parts::Leaf,
         ExprKind::This => Parts::Leaf,
         ExprKind::ClassLit(_) => Parts::Leaf,
-        ExprKind::Simple(name) => Parts::Named(name),
-        ExprKind::Field(part, name) => Parts::Dotted(part, name),
-        ExprKind::SuperField(_) => Parts::OnSuper,
+        ExprKind::Simple(_) => Parts::Named,
+        ExprKind::Field(part, _) => Parts::Dotted(part),
+        ExprKind::SuperField(_) => Parts::Named,
         ExprKind::Call(target, _, args) => match target {
             None => Parts::Row(false, args),
             Some(part) => Parts::On(part, args),
@@ -130,9 +130,8 @@ pub(crate) fn expr_in<'a, A>(parts: Parts<'a, A>, number: u32) -> Option<&'a Exp
 {
     match parts {
         Parts::Leaf => None,
-        Parts::Named(_) => None,
-        Parts::OnSuper => None,
-        Parts::Dotted(part, _) => only(0, part, number),
+        Parts::Named => None,
+        Parts::Dotted(part) => only(0, part, number),
         Parts::One(own, part) => only(own, part, number),
         Parts::Two(_, first, second) => in_two(first, second, number),
         Parts::Row(_, args) => nth_behind(args, 1, number),

@@ -35,6 +35,7 @@ use jr_text::Mark;
 use std::alloc::{AllocError, Global};
 
 /// The sites of these numbers, from `from` on and below `to`.
+#[derive(Clone, Copy)]
 pub struct SiteRange {
     pub from: u32,
     pub to: u32,

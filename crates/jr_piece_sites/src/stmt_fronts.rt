@@ -1,9 +1,8 @@
 //! What stands in front of a part of a statement, in evaluation order (JLS 14).
-ghost use Rattle.std.specs.Prelude.{List, ◌≡◌, ◌+◌, ◌++◌, ◌∷◌, [], ℕ, IfOk, OnOk, pred, suc};
+ghost use Rattle.std.specs.Prelude.{List, ◌+◌, ◌++◌, ◌∷◌, [], ℕ, IfOk, OnOk, pred, suc};
 ghost use Rattle.jr_ast.specs.View.{expr_of, stmt_of, stmts_of};
 ghost use Rattle.jr_bind_expr.specs.Fits.{FitsExp, FitsStmt, FitsStmts};
 ghost use Rattle.jr_cfg.specs.StatementRoutes.{Numbered, NumberedAll};
-ghost use Rattle.jr_cover.specs.Sites as sites;
 ghost use Rattle.jr_cover.specs.Spots.{spot_stmt, spot_stmts};
 ghost use Rattle.jr_cover.specs.Ways.{size};
 ghost use Rattle.jr_expr_sites.specs.KnownFacts.{known_of, place};

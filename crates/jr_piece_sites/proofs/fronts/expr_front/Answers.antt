@@ -53,20 +53,6 @@ returns-in-Named g c =
     let whole = λ (o : Others). exp_front (known_of G o) (parts_of (spots T path base e)) c.args.number in
     counting.grows_as G (λ o. 0) whole old old (λ o. sym (kind.front_spots T G o path base e c.args.number ∙ (λ i. kind.front_by T G o path base (sym start i) c.args.number (is i)))) (counting.stays G old)
 
-pub returns-in-OnSuper : goal.returns-in-OnSuper
-returns-in-OnSuper g c =
-    let T = g.A.Mark.span_from in
-    let G = given g.F.Facts.decls g.F.Facts.types c.args.here.now in
-    let path = c.args.path.now.steps.items in
-    let old = c.args.out.now.items in
-    let base = c.args.base in
-    let e = expr_of c.args.of.now in
-    let at = c.span-at.result.from in
-    let start : at ≡ begins_by T (exp_mark e) base = ap (λ (z : Span). z.from) c.span-at.ensures ∙ ap (λ (k : g.row.A.Denot). begins_by T k base) (sym (expr_mark_is c.args.of.now)) in
-    let is = sym c.parts_of.ensures ∙ ap parts_view c.in-OnSuper.is in
-    let whole = λ (o : Others). exp_front (known_of G o) (parts_of (spots T path base e)) c.args.number in
-    counting.grows_as G (λ o. 0) whole old old (λ o. sym (kind.front_spots T G o path base e c.args.number ∙ (λ i. kind.front_by T G o path base (sym start i) c.args.number (is i)))) (counting.stays G old)
-
 pub returns-in-Dotted : goal.returns-in-Dotted
 returns-in-Dotted g c =
     let T = g.A.Mark.span_from in

@@ -11,7 +11,6 @@ use Rattle.jr_expr_sites.specs.Routes.{begins_by, ends_by}
 use Rattle.jr_expr_sites.specs.Routes as route
 use Rattle.jr_expr_sites.proofs.Walking.{on_ok_then}
 use Rattle.jr_piece_sites.specs.Fronts.{exps_front}
-use Rattle.jr_piece_sites.specs.Growth.{count}
 use Rattle.jr_piece_sites.proofs.Counting as counting
 use Rattle.jr_piece_sites.proofs.fronts.put_args.Goals as goal
 

@@ -8,7 +8,6 @@ use Rattle.jr_expr_sites.specs.Routes as route
 use Rattle.jr_expr_sites.proofs.Walking.{on_ok_then}
 use Rattle.jr_piece_sites.specs.Fronts.{in_front_of_second}
 use Rattle.jr_piece_sites.specs.Parts as parts
-use Rattle.jr_piece_sites.specs.Parts.{parts_of}
 use Rattle.jr_piece_sites.specs.PartsView.{parts_view}
 use Rattle.jr_piece_sites.proofs.Counting as counting
 use Rattle.jr_piece_sites.proofs.ExprKinds as kind
@@ -29,22 +28,6 @@ returns-in-Named g c =
     let w = λ (o : Others). size (route.exp T (path ++ 0 ∷ []) c.args.at e G o) in
     on_ok_then c.operand.result (λ h. counting.grows_as G w (λ o. in_front_of_second (known_of G o) parts.changed (spots T (path ++ 0 ∷ []) c.args.at e)) old new
     (λ o. sym (kind.read_spots T G o (path ++ 0 ∷ []) c.args.at e ∙ ap (kind.read_by T G o (path ++ 0 ∷ []) c.args.at (w o)) is)) (counting.walk_grows G (route.exp T (path ++ 0 ∷ []) c.args.at e) old new h)) c.operand.ensures
-
-pub operand-requires-in-OnSuper : goal.operand-requires-in-OnSuper
-operand-requires-in-OnSuper g c = record { fits = c.requires.fits }
-
-pub returns-in-OnSuper : goal.returns-in-OnSuper
-returns-in-OnSuper g c =
-    let T = g.A.Mark.span_from in
-    let G = given g.F.Facts.decls g.F.Facts.types c.args.here.now in
-    let path = c.args.path.now.steps.items in
-    let old = c.args.out.now.items in
-    let e = expr_of c.args.to.now in
-    let new = c.operand-in-OnSuper.new.out.items in
-    let is = sym c.parts_of.ensures ∙ ap parts_view c.in-OnSuper.is in
-    let w = λ (o : Others). size (route.exp T (path ++ 0 ∷ []) c.args.at e G o) in
-    on_ok_then c.operand-in-OnSuper.result (λ h. counting.grows_as G w (λ o. in_front_of_second (known_of G o) parts.changed (spots T (path ++ 0 ∷ []) c.args.at e)) old new
-    (λ o. sym (kind.read_spots T G o (path ++ 0 ∷ []) c.args.at e ∙ ap (kind.read_by T G o (path ++ 0 ∷ []) c.args.at (w o)) is)) (counting.walk_grows G (route.exp T (path ++ 0 ∷ []) c.args.at e) old new h)) c.operand-in-OnSuper.ensures
 
 pub operand-requires-in-Dotted : goal.operand-requires-in-Dotted
 operand-requires-in-Dotted g c = record { fits = c.requires.fits }

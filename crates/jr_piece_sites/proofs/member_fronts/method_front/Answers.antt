@@ -14,7 +14,6 @@ use Rattle.jr_piece_sites.specs.Fronts.{method_body}
 use Rattle.jr_piece_sites.specs.Parts.{behind}
 use Rattle.jr_piece_sites.specs.Pieces.{method_front}
 use Rattle.jr_piece_sites.proofs.Places as place
-use Rattle.jr_piece_sites.proofs.MemberArms as arm
 use Rattle.std.proofs.lemmas.List.{length-map}
 use Rattle.jr_piece_sites.proofs.member_fronts.method_front.Goals as goal
 

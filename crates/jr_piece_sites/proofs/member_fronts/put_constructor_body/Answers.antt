@@ -7,7 +7,7 @@ use Rattle.jr_expr_sites.specs.StepView.{given}
 use Rattle.jr_expr_sites.specs.KnownFacts.{known_of}
 use Rattle.jr_expr_sites.specs.Routes.{begins_by, ends_by}
 use Rattle.jr_piece_sites.specs.Fronts.{stmts_front}
-use Rattle.jr_piece_sites.specs.Growth.{count, GrownTo}
+use Rattle.jr_piece_sites.specs.Growth.{GrownTo}
 use Rattle.jr_cfg.specs.StatementRoutes.{NumberedAll}
 use Rattle.jr_piece_sites.specs.Pieces.{locals_up_to}
 use Rattle.jr_piece_sites.proofs.Growths as growth

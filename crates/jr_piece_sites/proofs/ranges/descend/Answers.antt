@@ -1,4 +1,4 @@
-use Rattle.std.proofs.Common.{◌≡◌, ℕ, ◌+◌, List, [], ◌∷◌, ◌++◌, take, drop, get_or, append_assoc, Option, Some, None, option_map, ap, sym, subst, ◌∙◌}
+use Rattle.std.proofs.Common.{◌≡◌, ℕ, ◌+◌, List, [], ◌∷◌, ◌++◌, take, drop, get_or, append_assoc, Some, None, option_map, ap, sym, subst, ◌∙◌}
 use Rattle.jr_expr_sites.specs.StepView.{given}
 use Rattle.jr_piece_sites.specs.Pieces.{part_of}
 use Rattle.jr_piece_sites.specs.PieceView.{piece_of}

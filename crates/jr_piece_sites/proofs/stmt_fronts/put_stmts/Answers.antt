@@ -10,7 +10,6 @@ use Rattle.jr_expr_sites.specs.KnownFacts.{Others, known_of}
 use Rattle.jr_expr_sites.specs.Routes.{begins_by, ends_by}
 use Rattle.jr_cfg.specs.StatementRoutes as list
 use Rattle.jr_piece_sites.specs.Fronts.{stmts_front}
-use Rattle.jr_piece_sites.specs.Growth.{count}
 use Rattle.jr_piece_sites.proofs.Counting as counting
 use Rattle.jr_table.specs.Context.{locals_in_row}
 use Rattle.jr_cfg.specs.StatementRoutes.{NumberedAll}

@@ -1,6 +1,5 @@
 use Rattle.std.proofs.Common.{◌≡◌, option_map, ap, sym, subst, ◌∙◌}
 use Rattle.jr_text.specs.declared.spans.Span.{Span}
-use Rattle.jr_ast.specs.declared.stmts.Stmt.{Stmt}
 use Rattle.jr_ast.specs.View.{expr_of, stmt_of}
 use Rattle.jr_ast.proofs.Rows.{stmt_mark_is}
 use Rattle.jr_bind_expr.specs.Fits.{FitsStmt}

@@ -8,7 +8,6 @@ use Rattle.jr_expr_sites.specs.Routes.{begins_by, ends_by}
 use Rattle.jr_expr_sites.specs.Routes as route
 use Rattle.jr_cfg.specs.StatementRoutes as list
 use Rattle.jr_piece_sites.specs.Fronts.{behind_first, stmts_front}
-use Rattle.jr_piece_sites.specs.Growth.{count}
 use Rattle.jr_piece_sites.proofs.Counting as counting
 use Rattle.jr_cfg.specs.StatementRoutes.{NumberedAll}
 use Rattle.jr_piece_sites.specs.Pieces.{locals_up_to}
