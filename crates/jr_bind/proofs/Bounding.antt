@@ -1,5 +1,5 @@
 -- What is known of a member, from its log.
-use Rattle.std.proofs.Common.{◌≡◌, ℕ, zero, suc, ◌+◌, ◌-◌, ◌≤◌, List, [], ◌∷◌, ◌++◌, Some, Bool, true, false, refl, sym, ap, subst, ◌∙◌, inl, inr, arith}
+use Rattle.std.proofs.Common.{◌≡◌, ℕ, zero, suc, ◌+◌, ◌-◌, ◌≤◌, List, [], ◌∷◌, ◌++◌, Option, Some, Bool, true, false, refl, sym, ap, subst, ◌∙◌, inl, inr, arith}
 use Rattle.std.specs.Prelude.{◌⊎◌, ◌↔◌, nat_lt, ◌==◌, if◌then◌else◌}
 use Rattle.std.specs.List.{Contains}
 use Rattle.std.specs.List.Sorted.{IsPermutation}
@@ -18,6 +18,7 @@ use Rattle.jr_bind_expr.specs.Arms.{one_decl}
 use Rattle.jr_bind_expr.specs.Logs.{Adds}
 use Rattle.jr_expr_types.specs.Slots.{Slot, find_type}
 use Rattle.jr_bind.specs.Bounds.{Reference, decl_in, Bound, TypeInPart, BindsOnce, IsBound}
+use Rattle.jr_bind.specs.Targets.{note_place, note_decl}
 use Rattle.jr_bind.specs.BoundLogs.{reference_at, found_references, note_references, references_in, IsBoundOfLog}
 
 -- elements of a list
@@ -42,7 +43,7 @@ abbrev ref : ℕ → Decl → Reference
 ref at d = record { at = at; decl = d }
 
 -- a reference of a note
-in_either : {X : Type 0} (xs ys : List X) (x : X) → In (xs ++ ys) x → In xs x ⊎ In ys x
+pub in_either : {X : Type 0} (xs ys : List X) (x : X) → In (xs ++ ys) x → In xs x ⊎ In ys x
 in_either [] ys x h = inr h
 in_either (y ∷ xs) ys x (inl e) = inl (inl e)
 in_either (y ∷ xs) ys x (inr h) = elim (in_either xs ys x h) [
@@ -165,10 +166,18 @@ module _ {A : Type 0} (begins : A → ℕ → ℕ) (rows : List Row) (super_at :
     types = λ path t. subst (λ (s : List Slot). (find_type s path ≡ Some t) ↔ TypeInPart begins rows k part path t) (sym of.types) (typed path t);
   }
 
--- the reference of a note of what is found
-pub found_noted : (start at : ℕ) (q : Sought) (f : Found) → found_references start at (one_decl f) ≡ note_references start (found_note at q f)
-found_noted start at q (one d) = refl
-found_noted start at q nothing = refl
-found_noted start at q (many d e) = refl
-found_noted start at q (not_accessible d) = refl
-found_noted start at q (from_static d) = refl
+-- what a note refers to
+pub declared_noted : (at : ℕ) (q : Sought) (f : Found) → one_decl f ≡ note_decl (found_note at q f)
+declared_noted at q (one d) = refl
+declared_noted at q nothing = refl
+declared_noted at q (many d e) = refl
+declared_noted at q (not_accessible d) = refl
+declared_noted at q (from_static d) = refl
+
+-- the references of a note, by its place and what it refers to
+pub references_noted : (start : ℕ) (n : Note) (at : ℕ) (o : Option Decl) → note_place n ≡ at → o ≡ note_decl n → found_references start at o ≡ note_references start n
+references_noted start n at o place declares = (λ i. found_references start (sym place i) (declares i)) ∙ of_note n
+  where
+    of_note : (m : Note) → found_references start (note_place m) (note_decl m) ≡ note_references start m
+    of_note (refers a d) = refl
+    of_note (breaks a r) = refl

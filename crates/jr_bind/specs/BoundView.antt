@@ -9,7 +9,7 @@ use Rattle.jr_bind.specs.ErrorView.{error_of}
 use Rattle.jr_bind.specs.Bounds.{Reference, Bound}
 
 abbrev pub reference_of : raw.Reference → Reference
-reference_of r = record { at = r.at; decl = decl_of r.decl }
+reference_of r = record { at = r.at; decl = decl_of r.decl.value }
 
 abbrev pub bound_of : MemberKey → List raw.Reference → List BindError → List Slot → Bound
 bound_of member references errors slots = record {

@@ -4,3 +4,4 @@ pub mod BoundView
 pub mod BoundLogs
 pub mod SuperPlaces
 pub mod Programs
+pub mod Targets

@@ -12,12 +12,14 @@ use jr_ast::Path;
 use jr_expr_types::Types;
 use jr_table::{Decl, Facts, MemberKey, Ty};
 use std::marker::Model;
+use std::rc::Rc;
 
-/// A reference, by its place from the member's first byte, and what it means.
+/// A reference, by its place from the member's first byte, and what it means; those that mean the
+/// same share it.
 #[derive(Drop)]
 pub struct Reference {
     pub at: u32,
-    pub decl: Decl,
+    pub decl: Rc<Decl>,
 }
 
 /// What binding knows of one member: what its references mean, the types of its expressions, and
@@ -62,7 +64,7 @@ fn decl_at(references: &[Reference], at: u32) -> Option<&Decl>
         None => None,
         Some(reference) => {
             if reference.at == at {
-                Some(&reference.decl)
+                Some(reference.decl.as_ref())
             } else {
                 None
             }

@@ -1,36 +1,85 @@
 //! The references of a member that are bound, by their places.
-ghost use Rattle.std.specs.Prelude.{◌≡◌, ◌++◌, ◌∷◌, [], map, option_map, IfOk};
+ghost use Rattle.std.specs.Prelude.{◌≡◌, ◌++◌, ◌∷◌, [], List, map, option_map, option_and_then};
+ghost use Rattle.std.specs.Prelude.{IfOk};
 ghost use Rattle.std.specs.List.Sorted.{IsPermutation, IsNonDecreasingBy};
-ghost use Rattle.jr_table.specs.Decls.{local_decl};
+ghost use Rattle.jr_table.specs.Decls.{MemberKey as KeyOfMember};
+ghost use Rattle.jr_table.specs.Rows.{Row};
 ghost use Rattle.jr_table.specs.KeyView.{member_key_of, decl_of};
 ghost use Rattle.jr_table.specs.Lookup.{shown};
 ghost use Rattle.jr_bind_expr.specs.Arms.{one_decl};
 ghost use Rattle.jr_bind.specs.BoundLogs as logs;
 ghost use Rattle.jr_bind.specs.BoundView.{reference_of};
+ghost use Rattle.jr_bind.specs.Targets.{target_decl, AreShared, note_place, note_decl};
 ghost use Rattle.jr_bind_expr.specs.Findings.{note_of};
-ghost use Rattle.jr_scopes.specs.Helds.{key_of};
 ghost use Rattle.jr_bind_expr.specs.Logs.{notes_of};
 
 use crate::bounds::Reference;
-use jr_bind_expr::{Finding, Note, decl_at, one_row};
-use jr_table::{Answer, Decl, LocalKey, MemberKey, Table};
+use crate::sharing::{Shared, Target, shared_decl};
+use jr_bind_expr::{Finding, Note, one_row};
+use jr_table::{Answer, Decl, MemberKey, Table};
 use std::alloc::{AllocError, Global};
+use std::rc::Rc;
 
-/// What is found, if one declaration is.
-fn found_decl(table: &Table, answer: Answer) -> Option<&Decl>
-    ensures { option_map (λ d. decl_of d.now) result ≡ one_decl (shown table.now answer) }
+/// What a lookup answers, if it answers one declaration.
+fn row_target(answer: Answer) -> Option<Target>
+    ensures { (rows : List Row) (k : KeyOfMember) → option_and_then (target_decl rows k) result
+        ≡ one_decl (shown rows answer) }
 {
     match one_row(answer) {
         None => None,
-        Some(number) => decl_at(table, number),
+        Some(number) => Some(Target::Row(number)),
+    }
+}
+
+/// What a note finds, if it finds one declaration.
+fn target_of(note: Note) -> Option<Target>
+    ensures { (rows : List Row) (k : KeyOfMember) → option_and_then (target_decl rows k) result
+        ≡ note_decl (note_of rows k note) }
+{
+    match note {
+        Note::Finds { finding, .. } => match finding {
+            Finding::Local(number) => Some(Target::Local(number)),
+            Finding::Rows(answer) => row_target(answer),
+        },
+        Note::Breaks { .. } => None,
+    }
+}
+
+/// Where a note stands.
+fn noted_at(note: Note) -> u32
+    ensures { (rows : List Row) (k : KeyOfMember) → note_place (note_of rows k note) ≡ result }
+{
+    match note {
+        Note::Finds { at, .. } => at,
+        Note::Breaks { at, .. } => at,
+    }
+}
+
+/// The declaration that a note finds, once for references that stand near each other.
+fn noted_decl(
+    alloc: Global,
+    table: &Table,
+    member: &MemberKey,
+    note: Note,
+    shared: &mut Vec<Shared>,
+) -> Result<Option<Rc<Decl>>, AllocError>
+    requires { AreShared table.now (member_key_of member.now) shared.old.items }
+    ensures shared { IfOk result (λ _. AreShared table.now (member_key_of member.now)
+        shared.new.items) }
+    ensures declared { IfOk result (λ o. option_map (λ d. decl_of d.value) o
+        ≡ note_decl (note_of table.now (member_key_of member.now) note)) }
+{
+    match target_of(note) {
+        None => Ok(None),
+        Some(target) => shared_decl(alloc, table, member, target, shared),
     }
 }
 
 /// Puts a reference behind the others.
-fn push(at: u32, decl: Decl, references: &mut Vec<Reference>) -> Result<(), AllocError>
+fn push(at: u32, decl: Rc<Decl>, references: &mut Vec<Reference>) -> Result<(), AllocError>
     ensures { IfOk result (λ _. map reference_of references.new.items
         ≡ map reference_of references.old.items
-        ++ record { at = at; decl = decl_of decl } ∷ []) }
+        ++ record { at = at; decl = decl_of decl.value } ∷ []) }
 {
     references.push(Reference { at, decl })?;
     Ok(())
@@ -40,79 +89,33 @@ fn push(at: u32, decl: Decl, references: &mut Vec<Reference>) -> Result<(), Allo
 fn push_decl(
     start: u32,
     at: u32,
-    decl: &Decl,
+    decl: Rc<Decl>,
     references: &mut Vec<Reference>,
 ) -> Result<(), AllocError>
     ensures { IfOk result (λ _. map reference_of references.new.items
         ≡ map reference_of references.old.items
-        ++ logs.reference_at start at (decl_of decl.now)) }
+        ++ logs.reference_at start at (decl_of decl.value)) }
 {
     if at < start {
         return Ok(());
     }
-    let decl = decl.copy()?;
     push(at - start, decl, references)
 }
 
-/// A reference to a local of the member.
-fn push_local(
-    member: &MemberKey,
+/// The same, if there is a declaration.
+fn push_reference(
     start: u32,
     at: u32,
-    number: u32,
-    references: &mut Vec<Reference>,
-) -> Result<(), AllocError>
-    ensures { IfOk result (λ _. map reference_of references.new.items
-        ≡ map reference_of references.old.items ++ logs.reference_at start at
-        (local_decl (key_of (member_key_of member.now) number))) }
-{
-    if at < start {
-        return Ok(());
-    }
-    let member = member.copy()?;
-    push(
-        at - start,
-        Decl::Local(LocalKey { member, number }),
-        references,
-    )
-}
-
-/// A reference to what a lookup answers, if it answers one declaration.
-fn push_found(
-    table: &Table,
-    start: u32,
-    at: u32,
-    answer: Answer,
+    decl: Option<Rc<Decl>>,
     references: &mut Vec<Reference>,
 ) -> Result<(), AllocError>
     ensures { IfOk result (λ _. map reference_of references.new.items
         ≡ map reference_of references.old.items
-        ++ logs.found_references start at (one_decl (shown table.now answer))) }
+        ++ logs.found_references start at (option_map (λ d. decl_of d.value) decl)) }
 {
-    match found_decl(table, answer) {
+    match decl {
         None => Ok(()),
         Some(decl) => push_decl(start, at, decl, references),
-    }
-}
-
-/// The reference that a note tells, if it tells one that is bound.
-fn push_reference(
-    table: &Table,
-    member: &MemberKey,
-    start: u32,
-    note: Note,
-    references: &mut Vec<Reference>,
-) -> Result<(), AllocError>
-    ensures { IfOk result (λ _. map reference_of references.new.items
-        ≡ map reference_of references.old.items ++ logs.note_references start
-        (note_of table.now (member_key_of member.now) note)) }
-{
-    match note {
-        Note::Finds { at, finding, .. } => match finding {
-            Finding::Local(number) => push_local(member, start, at, number, references),
-            Finding::Rows(answer) => push_found(table, start, at, answer, references),
-        },
-        Note::Breaks { .. } => Ok(()),
     }
 }
 
@@ -128,8 +131,10 @@ fn references_in(
         (notes_of table.now (member_key_of member.now) log.now)) }
 {
     let mut references = Vec::new(alloc);
+    let mut shared = Vec::new(alloc);
     for note in log {
-        push_reference(table, member, start, *note, &mut references)?;
+        let decl = noted_decl(alloc, table, member, *note, &mut shared)?;
+        push_reference(start, noted_at(*note), decl, &mut references)?;
     }
     Ok(references)
 }

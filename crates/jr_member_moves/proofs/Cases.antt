@@ -6,14 +6,14 @@ use Rattle.jr_text.specs.Splices.{splice}
 use Rattle.jr_ast.specs.declared.operators.ModWord.{ModWord}
 use Rattle.jr_ast.specs.declared.operators.ModWord.TheVariants.{Static, Synchronized}
 use Rattle.jr_ast.specs.Tree as tree
-use Rattle.jr_table.specs.Keys.{ClassKey, Ty, int, void}
+use Rattle.jr_table.specs.Keys.{ClassKey, MethodKey, Ty, int, void}
 use Rattle.jr_table.specs.Decls.{MemberKey, method, method_decl, class_decl}
 use Rattle.jr_table.specs.Rows.{Row}
 use Rattle.jr_table.specs.Prelude.{class_row, ctor_row}
 use Rattle.jr_rewrite.specs.Rewritten.{change}
 use Rattle.jr_rewrite.specs.Woven.{with_changes}
 use Rattle.jr_rewrite.specs.Edited.{entries_of}
-use Rattle.jr_member_moves.specs.Places.{rows_with}
+use Rattle.jr_member_moves.specs.Places.{field_moved, method_moved, rows_with}
 use Rattle.jr_member_moves.specs.Selecting.{is_in_the_way}
 use Rattle.jr_member_moves.specs.Texts.{at_byte, open_monitor}
 use Rattle.jr_member_moves.specs.Moves.{is_synchronized}
@@ -41,6 +41,26 @@ method_row words of result = record {
   parent = None;
   has_init = false;
 }
+
+-- ---- keys: m goes to B; its overload, another name and another class's m stay
+
+abbrev key_of : ClassKey → List ℕ → List Ty → MethodKey
+key_of of name params = record { class = of; name = name; params = params }
+
+its_key_goes : method_moved m B (key_of C (codes "m") []) ≡ key_of B (codes "m") []
+its_key_goes = refl
+
+an_overload_stays : method_moved m B (key_of C (codes "m") (int ∷ [])) ≡ key_of C (codes "m") (int ∷ [])
+an_overload_stays = refl
+
+another_name_stays : method_moved m B (key_of C (codes "n") []) ≡ key_of C (codes "n") []
+another_name_stays = refl
+
+another_class_stays : method_moved m B (key_of (top (codes "D")) (codes "m") []) ≡ key_of (top (codes "D")) (codes "m") []
+another_class_stays = refl
+
+a_field_of_its_name_stays : field_moved m B (record { class = C; name = codes "m" }) ≡ record { class = C; name = codes "m" }
+a_field_of_its_name_stays = refl
 
 -- ---- class B{static class K{}}class C extends B{static synchronized void m(){}}
 

@@ -1,14 +1,95 @@
--- Keys of what doesn't move stay.
-use Rattle.std.proofs.Common.{◌≡◌, Bool, true, false, Decides, refl, if◌then◌else◌}
-use Rattle.jr_table.specs.Decls.{field}
-use Rattle.jr_table.specs.SameDecls.{same_member, member_decides}
-use Rattle.jr_member_moves.specs.Laws.{OthersStay}
+-- Keys of what doesn't move stay, and pull up moves its member to a key that no other has.
+use Rattle.std.proofs.Common.{◌≡◌, ◌≢◌, ◌∙◌, ◌||◌, ℕ, Bool, true, false, Decides, refl, sym, ap, if◌then◌else◌}
+use Rattle.std.proofs.lemmas.Bool.{both_ways}
+use Rattle.jr_text.specs.declared.spans.Span.{Span}
+use Rattle.jr_table.specs.Keys.{ClassKey, FieldKey, MethodKey}
+use Rattle.jr_table.specs.Decls.{MemberKey, head, field, method, constructor}
+use Rattle.jr_table.specs.SameDecls.{same_member, member_decides, same_decl, decl_decides}
+use Rattle.jr_table.specs.Entries.{IsRowOf}
+use Rattle.jr_members.specs.WrittenMembers.{decl_of_member}
+use Rattle.jr_bind.specs.Programs.{Program}
+use Rattle.jr_images.specs.Regions.{Images, image_of_member}
+use Rattle.jr_member_moves.specs.Places.{in_class, field_moved, method_moved}
+use Rattle.jr_member_moves.specs.Moves.{Found, key}
+use Rattle.jr_member_moves.specs.Laws.{OthersStay, PullsUpMove, images_of}
+
+-- by a test, one of two
+chosen : {T P : Type 0} (b : Bool) → Decides b P → (x y : T) → P → (if b then x else y) ≡ x
+chosen true d x y h = refl
+chosen false d x y h = absurd (both_ways false refl (d.1 h))
+
+passed : {T P : Type 0} (b : Bool) → Decides b P → (x y : T) → (P → ⊥) → (if b then x else y) ≡ y
+passed true d x y h = absurd (h (d.0 refl))
+passed false d x y h = refl
 
 pub others_stay : OthersStay
 others_stay moved to k other =
-    by_test (same_member (field k) moved) (member_decides (field k) moved)
-  where
-    by_test : (b : Bool) → Decides b (field k ≡ moved)
-        → (if b then record { class = to; name = k.name } else k) ≡ k
-    by_test true d = absurd (other (d.0 refl))
-    by_test false d = refl
+    passed (same_member (field k) moved) (member_decides (field k) moved) (record { class = to; name = k.name }) k other
+
+module _ (moved : MemberKey) (to : ClassKey) where
+  field_stays : (k : FieldKey) → field k ≢ moved → field (field_moved moved to k) ≡ field k
+  field_stays k other = ap (λ x. field x) (others_stay moved to k other)
+
+  method_stays : (k : MethodKey) → method k ≢ moved → method (method_moved moved to k) ≡ method k
+  method_stays k other =
+      ap (λ x. method x) (passed (same_member (method k) moved) (member_decides (method k) moved) (record { class = to; name = k.name; params = k.params }) k other)
+
+  field_goes : (k : FieldKey) → field k ≡ moved → field (field_moved moved to k) ≡ in_class to (field k)
+  field_goes k is = ap (λ x. field x) (chosen (same_member (field k) moved) (member_decides (field k) moved) (record { class = to; name = k.name }) k is)
+
+  method_goes : (k : MethodKey) → method k ≡ moved → method (method_moved moved to k) ≡ in_class to (method k)
+  method_goes k is =
+      ap (λ x. method x) (chosen (same_member (method k) moved) (member_decides (method k) moved) (record { class = to; name = k.name; params = k.params }) k is)
+
+first_false : (a b : Bool) → (a || b) ≡ false → a ≡ false
+first_false true b e = e
+first_false false b e = refl
+
+module _ (p : Program Span) (file at : ℕ) (f : Found p file at) where
+  abbrev moved : MemberKey
+  moved = f.declared.member.key
+
+  abbrev to : ClassKey
+  to = key p file at f
+
+  abbrev m : Images
+  m = images_of p file at f
+
+  goes : (k : MemberKey) → k ≡ moved → image_of_member m k ≡ in_class to k
+  goes (head k) is = refl
+  goes (field k) is = field_goes moved to k is
+  goes (method k) is = method_goes moved to k is
+  goes (constructor k) is = refl
+
+  others : (k : MemberKey) → k ≢ moved → image_of_member m k ≡ k
+  others (head k) other = refl
+  others (field k) other = field_stays moved to k other
+  others (method k) other = method_stays moved to k other
+  others (constructor k) other = refl
+
+  -- no declared member has the new key
+  free : (k : MemberKey) (j : ℕ) → IsRowOf p.rows (decl_of_member k) j → k ≢ in_class to moved
+  free k j r is =
+      let declares : r.row.decl ≡ decl_of_member (in_class to moved) = r.declares ∙ ap decl_of_member is in
+      both_ways (same_decl r.row.decl (decl_of_member (in_class to moved)))
+      (first_false (same_decl r.row.decl (decl_of_member (in_class to moved))) _ (f.free.free j r.row r.stands))
+      ((decl_decides r.row.decl (decl_of_member (in_class to moved))).1 declares)
+
+  alone : (k : MemberKey) (j : ℕ) → IsRowOf p.rows (decl_of_member k) j → image_of_member m k ≡ image_of_member m moved → k ≡ moved
+  alone k j r same = by_test (same_member k moved) (member_decides k moved)
+    where
+      by_test : (b : Bool) → Decides b (k ≡ moved) → k ≡ moved
+      by_test true d = d.0 refl
+      by_test false d =
+          let other : k ≢ moved = (λ e. both_ways false refl (d.1 e)) in
+          absurd (free k j r (sym (others k other) ∙ (same ∙ goes moved refl)))
+
+pub pulls_up_move : PullsUpMove
+pulls_up_move p file at f = record {
+  classes = λ k. refl;
+  constructors = λ k. refl;
+  names = λ d old. refl;
+  goes = goes p file at f f.declared.member.key refl;
+  others = others p file at f;
+  alone = alone p file at f;
+}

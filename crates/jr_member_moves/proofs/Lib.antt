@@ -1,3 +1,5 @@
--- `Keys`: keys that stay. `Cases`: small examples, each a sentence of the rules.
+-- `Keys`: keys that stay, and the one that moves. `Apart`: spots are used. `Cases`: small examples,
+-- each a sentence of the rules.
 pub mod Keys
+pub mod Apart
 mod Cases

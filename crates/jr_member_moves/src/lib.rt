@@ -1,5 +1,8 @@
 //! Pull up: what it finds, why it is refused by itself, and what it makes of a program, as a
-//! refactoring of jr_plan. It has definitions and a law alone so far.
+//! refactoring of jr_plan. It has definitions and laws alone so far.
+//!
+//! [`pulls_up_move`]: one member's key becomes one that is free, and all others stay.
+//! [`pull_up_is_apart`]: its spots are used (`jr_plan: IsFit.apart`).
 //!
 //! `specs/Selecting`: the declared member, the superclass, refusals. `specs/Places`: keys, rows and
 //! regions where a member goes to another class. `specs/Texts`: the text of what goes. `specs/Moves`:
@@ -8,4 +11,4 @@
 
 mod laws;
 
-pub use laws::other_members_stay;
+pub use laws::{other_members_stay, pull_up_is_apart, pulls_up_move};

@@ -1,7 +1,8 @@
 -- Two worked edits: a local is extracted, and one is inlined, each as a spot in a list of statements
 -- with spots in its expressions. The choices outside of spots all stay.
-use Rattle.std.proofs.Common.{◌≡◌, ◌⊎◌, ℕ, ◌+◌, false, List, [], ◌∷◌, ◌++◌, Some, refl, inl, inr, arith}
-use Rattle.std.specs.Prelude.{◌≢◌, codes}
+use Rattle.std.proofs.Common.{◌≡◌, ◌⊎◌, ℕ, ◌+◌, Bool, false, List, [], ◌∷◌, ◌++◌, Some, refl, sym, ap, inl, inr, arith}
+use Rattle.std.specs.Prelude.{◌≢◌, nat_eq, codes}
+use Rattle.std.proofs.lemmas.Bool.{both_ways}
 use Rattle.jr_text.specs.declared.spans.Span.{Span}
 use Rattle.jr_text.specs.Splices.{splice}
 use Rattle.jr_ast.specs.declared.operators.BinOp.TheVariants.{Add, Sub}
@@ -215,13 +216,20 @@ minus_stays : (c : Context) (base : ℕ) → TransformsExp itself all_stay nowhe
 unfolding TransformsExp TransformsTarget TransformsRow
 minus_stays c base = (plain _, refl, refl)
 
+abbrev is_a : List ℕ → Bool
+is_a [] = false
+is_a (c ∷ cs) = nat_eq c 97
+
+other_name : codes "a" ≢ codes "t"
+other_name e = both_ways false refl (sym (ap is_a e))
+
 difference_becomes : (c : Context) (base : ℕ)
     → TransformsExp itself all_stay (spotted (reads all_stay differing minus_one (codes "t") (codes " "))) c value base (tree.binary (span 37 40) Sub parameter read) difference
 unfolding TransformsExp TransformsTarget TransformsRow
 difference_becomes c base = (
   plain parameter,
   changed minus_one (change (span 39 40) (codes " -1") ∷ []),
-  inl (λ e. absurd cc, (stays, refl, refl)),
+  inl (other_name, (stays, refl, refl)),
   inr (refl, (plain minus_one, (plain _, refl, refl), inl (omega arith, refl))),
   refl,
 )

@@ -38,6 +38,15 @@ pub(crate) enum Planned {
     Edits { edits: EditLists, respelled: u32 },
 }
 
+/// The value, behind which the other is let go. A function that lets it go itself, and knows both
+/// types, is proved by their variants.
+pub(crate) fn kept<T, G: Drop>(value: T, gone: G) -> T
+    ensures { result ≡ value }
+{
+    drop(gone);
+    value
+}
+
 // What a session has no use for. No dependence is lost by a rename.
 fn forget(renaming: Renaming, lost: Option<DepPair>) {
     drop(lost);
@@ -85,14 +94,15 @@ fn sound(
 {
     new_tables();
     let whole = Whole::new(sources, readings, analysis);
-    let outcome = plan_at(
+    let planned = plan_at(
         alloc,
         &whole,
         request.number,
         request.at,
         request.new,
         after,
-    )?;
+    );
+    let outcome = kept(planned, whole)?;
     Ok(of_outcome(outcome))
 }
 

@@ -14,11 +14,12 @@ ghost use Rattle.jr_session.specs.Trying.{IsJudged, IsTried, AreSomeProgram};
 ghost use Rattle.jr_session.specs.Trying.{changes_file, AreUnchanged, IsOfAnalysed};
 
 use crate::changes::Change;
+use crate::plans::kept;
 use crate::turns::{exchange_all, readings_of};
 use jr_rename::After;
 use jr_sources::{
     Analysed, Analysis, EarlierAnalysis, Readings, SourceFault, Sources, Whole, analyse,
-    analyse_same, analyse_with, first_error, forget_known,
+    analyse_same, analyse_with, first_error,
 };
 use jr_steps::Steps;
 use jr_table::Table;
@@ -95,8 +96,7 @@ fn analyse_known<L: Ledger>(
 {
     let mut known = known;
     let analysed = analyse(alloc, sources, readings, &mut known, earlier, steps);
-    forget_known(known);
-    analysed
+    kept(analysed, known)
 }
 
 // What is known of sources that have the table of the earlier ones, if what was analysed of these

@@ -1,0 +1,7 @@
+use Rattle.std.proofs.Common.{sym, subst}
+use Rattle.std.specs.Prelude.{IfOk}
+use Rattle.jr_sources.specs.Analysed.{IsAnalysed}
+use Rattle.jr_session.proofs.tries.analyse_known.Goals as goal
+
+pub returns-clause-analysed : goal.returns-clause-analysed
+returns-clause-analysed g c = subst (λ r. IfOk r (IsAnalysed c.args.sources.now)) (sym c.kept.ensures) c.analyse-analysed.ensures.analysed
