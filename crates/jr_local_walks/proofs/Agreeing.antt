@@ -3,20 +3,22 @@ use Rattle.std.proofs.Common.{◌≡◌, ℕ, zero, suc, List, [], ◌∷◌, ma
 use Rattle.std.specs.Prelude.{slice_get}
 use Rattle.jr_ast.specs.Tree as tree
 use Rattle.jr_table.specs.Keys.{ClassKey, FieldKey, Ty, class}
-use Rattle.jr_table.specs.Decls.{LocalKey, Decl, class_decl, field_decl, method_decl, constructor_decl, local_decl}
+use Rattle.jr_table.specs.Decls.{MethodKey, LocalKey, Decl, class_decl, field_decl, method_decl, constructor_decl, local_decl}
 use Rattle.jr_table.specs.Rows.{Row}
 use Rattle.jr_table.specs.Found.{Found, one, nothing, many, not_accessible, from_static}
 use Rattle.jr_table.specs.Scope.{Scope, ScopeLocal, FindsLocal}
-use Rattle.jr_table.specs.Lookup.{FindsVariable}
-use Rattle.jr_table.specs.Context.{Context, Local, scope_local, scope_of}
-use Rattle.jr_table.specs.Binding.{Role, value, left, statement}
+use Rattle.jr_table.specs.Lookup.{FindsVariable, FindsMethodNamed, FindsMethodOf, FindsCtorOf}
+use Rattle.jr_table.specs.Context.{Context, Local, IsSuperclass, scope_local, scope_of}
+use Rattle.jr_table.specs.Binding.{HaveTypes, FindsIn, Role, value, left, statement}
+use Rattle.jr_spell.specs.declared.references.RefForm.{RefForm}
 use Rattle.jr_spell.specs.declared.references.RefForm.TheVariants as ref
+use Rattle.jr_spell.specs.References.{Reference, Operand}
 use Rattle.jr_rewrite.specs.Respellings.{Choice}
 use Rattle.jr_new_files.proofs.Namesakes.{found_variable}
 use Rattle.jr_local_walks.specs.Contexts.{Each}
 use Rattle.jr_images.specs.Regions.{Images, Seen, Region, itself}
-use Rattle.jr_images.specs.Words.{InFront, class_name, value_of, neither, IsOfClass, Stands, FindsBetween, FirstWord, NextWord, AreWords}
-use Rattle.jr_images.specs.Spelling.{TakenChoice, behind_words, reference, operand_of, LocalChoice, VariableChoice, ClassChoice, OnValueOrClass, FieldChoice, MemberClassChoice, CallChoice, ExpChoice, CreationChoice, TypeChoice, QualifierChoice}
+use Rattle.jr_images.specs.Words.{InFront, class_name, value_of, neither, IsOfClass, Stands, FindsBehind, FindsBetween, FirstWord, NextWord, AreWords}
+use Rattle.jr_images.specs.Spelling.{TakenChoice, behind_words, reference, operand_of, on_type, FindsOn, SimpleCallChoice, SuperCallChoice, LocalChoice, VariableChoice, ClassChoice, OnValueOrClass, FieldChoice, MemberClassChoice, CallChoice, ExpChoice, CreationChoice, TypeChoice, QualifierChoice}
 
 -- ---- locals in scope
 
@@ -113,16 +115,17 @@ module _ (i : Images) (s : Scope) (to to' : LocalKey → Option LocalKey) (H K :
 
   -- ---- choices
 
-  module _ {A : Type 0} (begins : A → ℕ → ℕ) (rows : List Row) (t : tree.Exp A → Ty → Ty) (ts : tree.Exps A → List Ty → List Ty)
+  module _ {A : Type 0} (begins : A → ℕ → ℕ) (rows : List Row) (t : tree.Exp A → Ty → Ty) (ts us : tree.Exps A → List Ty → List Ty)
+      (same_types : (args : tree.Exps A) (old : List Ty) → HaveTypes rows c args old → ts args old ≡ us args old)
       (same : (name : List ℕ) (k : LocalKey) → FindsVariable rows (scope_of c) name (one (local_decl k)) → to k ≡ to' k) where
     abbrev R : Region A
     R = alike i s to H t ts
 
     abbrev S : Region A
-    S = alike i s to' K t ts
+    S = alike i s to' K t us
 
     local_choice : (at : ℕ) (old : List ℕ) (k : LocalKey) (h : Choice) → LocalChoice begins rows R c at old k h → LocalChoice begins rows S c at old k h
-    local_choice at old k h (finds, x) = subst (λ (o : Option LocalKey). LocalChoice begins rows (alike i s (λ z. o) K t ts) c at old k h) (same old k finds) (finds, x)
+    local_choice at old k h (finds, x) = subst (λ (o : Option LocalKey). LocalChoice begins rows (alike i s (λ z. o) K t us) c at old k h) (same old k finds) (finds, x)
 
     variable_choice : (at : ℕ) (old : List ℕ) (h : Choice) → VariableChoice begins rows R c at old h → VariableChoice begins rows S c at old h
     variable_choice at old h (inl (k, x)) = inl (k, local_choice at old k h x)
@@ -154,9 +157,37 @@ module _ (i : Images) (s : Scope) (to to' : LocalKey → Option LocalKey) (H K :
     member_class_choice value at e old h x = absurd x
     member_class_choice statement at e old h x = absurd x
 
+    -- what is taken of a method and of a constructor, with these types of arguments
+    abbrev Called : (at : ℕ) → (old : List ℕ) → MethodKey → RefForm → Option Operand → (InFront → Reference → Reference) → InFront → (Finds : List Ty → Found → Type 0) → Choice → List Ty → Type 0
+    Called at old q form operand front w Finds h vs =
+        TakenChoice begins rows S s at old (i.method_to q).name (method_decl q) (method_decl (i.method_to q)) (front w (reference form (i.method_to q).name operand vs)) (Finds vs) h
+
+    abbrev as_is : InFront → Reference → Reference
+    as_is w r = r
+
+    simple_call_choice : (at : ℕ) (old : List ℕ) (args : tree.Exps A) (h : Choice) → SimpleCallChoice begins rows R c at old args h → SimpleCallChoice begins rows S c at old args h
+    simple_call_choice at old args h (q, vs, finds, have, taken) =
+        (q, vs, finds, have, subst (Called at old q ref.MethodSimple None as_is neither (λ ws. FindsMethodNamed i.rows s (i.method_to q).name ws) h) (same_types args vs have) taken)
+
+    super_call_choice : (at : ℕ) (old : List ℕ) (args : tree.Exps A) (h : Choice) → SuperCallChoice begins rows R c at old args h → SuperCallChoice begins rows S c at old args h
+    super_call_choice at old args h (q, vs, finds, have, taken) =
+        (q, vs, finds, have, subst (Called at old q ref.AsAsked None as_is neither (λ ws. FindsIn (IsSuperclass i.rows s.class) (λ k f. FindsMethodOf i.rows s k (i.method_to q).name ws f)) h) (same_types args vs have) taken)
+
     call_choice : (at : ℕ) (e : tree.Exp A) (old : List ℕ) (args : tree.Exps A) (h : Choice) → CallChoice begins rows R c at e old args h → CallChoice begins rows S c at e old args h
-    call_choice at e old args h (q, us, finds, have, inl (k, is, w, front, taken)) = (q, us, finds, have, inl (k, is, w, words rows e k w front, taken))
-    call_choice at e old args h (q, us, finds, have, inr x) = (q, us, finds, have, inr x)
+    call_choice at e old args h (q, vs, finds, have, inl (k, is, w, front, taken)) = (
+      q,
+      vs,
+      finds,
+      have,
+      inl (k, is, w, words rows e k w front, subst (Called at old q ref.ThroughClass (operand_of (i.class_to k)) behind_words w (λ ws. FindsBehind w (λ o. FindsMethodOf i.rows s o (i.method_to q).name ws)) h) (same_types args vs have) taken),
+    )
+    call_choice at e old args h (q, vs, finds, have, inr (not, (k, has, taken))) = (
+      q,
+      vs,
+      finds,
+      have,
+      inr (not, (k, has, subst (Called at old q ref.MethodOn (on_type (t e (class k))) as_is neither (λ ws. FindsOn (t e (class k)) (λ o. FindsMethodOf i.rows s o (i.method_to q).name ws)) h) (same_types args vs have) taken)),
+    )
 
     expression : (r : Role) (base : ℕ) (e : tree.Exp A) (h : Choice) → ExpChoice begins rows R c r base e h → ExpChoice begins rows S c r base e h
     expression r base (tree.name m w) h (inl x) = inl (variable_choice _ w.text h x)
@@ -164,9 +195,9 @@ module _ (i : Images) (s : Scope) (to to' : LocalKey → Option LocalKey) (H K :
     expression r base (tree.field m e w) h (inl x) = inl (field_choice _ e w.text h x)
     expression r base (tree.field m e w) h (inr x) = inr (member_class_choice r _ e w.text h x)
     expression r base (tree.super_field m w) h x = x
-    expression r base (tree.call m tree.no_target w args) h x = x
+    expression r base (tree.call m tree.no_target w args) h x = simple_call_choice _ w.text args h x
     expression r base (tree.call m (tree.on e) w args) h x = call_choice _ e w.text args h x
-    expression r base (tree.super_call m w args) h x = x
+    expression r base (tree.super_call m w args) h x = super_call_choice _ w.text args h x
     expression r base (tree.number m n) h x = absurd x
     expression r base (tree.truth m b) h x = absurd x
     expression r base (tree.null m) h x = absurd x
@@ -183,7 +214,11 @@ module _ (i : Images) (s : Scope) (to to' : LocalKey → Option LocalKey) (H K :
     expression r base (tree.compound m op e f) h x = absurd x
 
     creation : (base : ℕ) (e : tree.Exp A) (h : Choice) → CreationChoice begins rows R c base e h → CreationChoice begins rows S c base e h
-    creation base (tree.create m u args) h x = x
+    creation base (tree.create m u args) h (k, q, vs, is, finds, have, taken) = (k, q, vs, is, finds, have, subst Made (same_types args vs have) taken)
+      where
+        Made : List Ty → Type 0
+        Made ws =
+            TakenChoice begins rows S s (begins m base) [] [] (constructor_decl q) (constructor_decl (i.ctor_to q)) (reference ref.AsAsked [] (operand_of (i.class_to k)) ws) (FindsCtorOf i.rows s (i.class_to k) ws) h
     creation base (tree.number m n) h x = absurd x
     creation base (tree.truth m b) h x = absurd x
     creation base (tree.null m) h x = absurd x
@@ -226,14 +261,14 @@ module _ {A : Type 0} (begins : A → ℕ → ℕ) (rows : List Row) (R S : Regi
     pub there : (k : LocalKey) (b : ClassKey) → R.seen.HasClass c k b → S.seen.HasClass c k b
     pub back : (k : LocalKey) (b : ClassKey) → S.seen.HasClass c k b → R.seen.HasClass c k b
     pub type : (e : tree.Exp A) (u : Ty) → R.type_now c e u ≡ S.type_now c e u
-    pub types : (es : tree.Exps A) (us : List Ty) → R.types_now c es us ≡ S.types_now c es us
+    pub types : (es : tree.Exps A) (us : List Ty) → HaveTypes rows c es us → R.types_now c es us ≡ S.types_now c es us
 
   module _ (a : Agree) where
     -- what both see but for locals
     moved : (P : Region A → Type 0)
         → P (alike (R.seen.images) (R.seen.scope c) (R.seen.local_to c) (R.seen.HasClass c) (λ e u. R.type_now c e u) (λ es us. R.types_now c es us))
-        → P (alike (S.seen.images) (S.seen.scope c) (R.seen.local_to c) (R.seen.HasClass c) (λ e u. S.type_now c e u) (λ es us. S.types_now c es us))
-    moved P x = subst P (λ i. alike (a.images i) (a.scope i) (R.seen.local_to c) (R.seen.HasClass c) (λ e u. a.type e u i) (λ es us. a.types es us i)) x
+        → P (alike (S.seen.images) (S.seen.scope c) (R.seen.local_to c) (R.seen.HasClass c) (λ e u. S.type_now c e u) (λ es us. R.types_now c es us))
+    moved P x = subst P (λ i. alike (a.images i) (a.scope i) (R.seen.local_to c) (R.seen.HasClass c) (λ e u. a.type e u i) (λ es us. R.types_now c es us)) x
 
     same_there : (name : List ℕ) (k : LocalKey) → FindsVariable rows (scope_of c) name (one (local_decl k)) → R.seen.local_to c k ≡ S.seen.local_to c k
     same_there name k finds =
@@ -242,20 +277,20 @@ module _ {A : Type 0} (begins : A → ℕ → ℕ) (rows : List Row) (R S : Regi
 
     pub expression_agrees : (r : Role) (base : ℕ) (e : tree.Exp A) (h : Choice) → ExpChoice begins rows R c r base e h → ExpChoice begins rows S c r base e h
     expression_agrees r base e h x =
-        expression S.seen.images (S.seen.scope c) (R.seen.local_to c) (S.seen.local_to c) (R.seen.HasClass c) (S.seen.HasClass c) a.there a.back c begins rows (λ e u. S.type_now c e u) (λ es us. S.types_now c es us) same_there r base e h
+        expression S.seen.images (S.seen.scope c) (R.seen.local_to c) (S.seen.local_to c) (R.seen.HasClass c) (S.seen.HasClass c) a.there a.back c begins rows (λ e u. S.type_now c e u) (λ es us. R.types_now c es us) (λ es us. S.types_now c es us) a.types same_there r base e h
         (moved (λ T. ExpChoice begins rows T c r base e h) x)
 
     pub creation_agrees : (base : ℕ) (e : tree.Exp A) (h : Choice) → CreationChoice begins rows R c base e h → CreationChoice begins rows S c base e h
     creation_agrees base e h x =
-        creation S.seen.images (S.seen.scope c) (R.seen.local_to c) (S.seen.local_to c) (R.seen.HasClass c) (S.seen.HasClass c) a.there a.back c begins rows (λ e u. S.type_now c e u) (λ es us. S.types_now c es us) same_there base e h
+        creation S.seen.images (S.seen.scope c) (R.seen.local_to c) (S.seen.local_to c) (R.seen.HasClass c) (S.seen.HasClass c) a.there a.back c begins rows (λ e u. S.type_now c e u) (λ es us. R.types_now c es us) (λ es us. S.types_now c es us) a.types same_there base e h
         (moved (λ T. CreationChoice begins rows T c base e h) x)
 
     pub type_agrees : (base : ℕ) (t : tree.TypeName A) (h : Choice) → TypeChoice begins rows R c base t h → TypeChoice begins rows S c base t h
     type_agrees base t h x =
-        type_choice S.seen.images (S.seen.scope c) (R.seen.local_to c) (S.seen.local_to c) (R.seen.HasClass c) (S.seen.HasClass c) a.there a.back c begins rows (λ e u. S.type_now c e u) (λ es us. S.types_now c es us) same_there base t h
+        type_choice S.seen.images (S.seen.scope c) (R.seen.local_to c) (S.seen.local_to c) (R.seen.HasClass c) (S.seen.HasClass c) a.there a.back c begins rows (λ e u. S.type_now c e u) (λ es us. R.types_now c es us) (λ es us. S.types_now c es us) a.types same_there base t h
         (moved (λ T. TypeChoice begins rows T c base t h) x)
 
     pub qualifier_agrees : (base : ℕ) (t : tree.TypeName A) (h : Choice) → QualifierChoice begins rows R c base t h → QualifierChoice begins rows S c base t h
     qualifier_agrees base t h x =
-        qualifier_choice S.seen.images (S.seen.scope c) (R.seen.local_to c) (S.seen.local_to c) (R.seen.HasClass c) (S.seen.HasClass c) a.there a.back c begins rows (λ e u. S.type_now c e u) (λ es us. S.types_now c es us) same_there base t h
+        qualifier_choice S.seen.images (S.seen.scope c) (R.seen.local_to c) (S.seen.local_to c) (R.seen.HasClass c) (S.seen.HasClass c) a.there a.back c begins rows (λ e u. S.type_now c e u) (λ es us. R.types_now c es us) (λ es us. S.types_now c es us) a.types same_there base t h
         (moved (λ T. QualifierChoice begins rows T c base t h) x)

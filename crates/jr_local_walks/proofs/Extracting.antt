@@ -31,6 +31,7 @@ use Rattle.jr_local_walks.specs.Walked.{number, there, base, HasTypeRow, NamesPi
 use Rattle.jr_local_walks.proofs.Agreeing.{Agree}
 use Rattle.jr_local_walks.proofs.Rooms.{behind_agrees, initializing_agrees}
 use Rattle.jr_local_walks.proofs.Orders.{order_within, order_own, order_behind, order_other}
+use Rattle.jr_local_walks.proofs.Below.{nearest_below, below_ordered}
 use Rattle.jr_local_walks.proofs.Instead as instead
 use Rattle.jr_local_walks.proofs.Leading.{C, D, types_lead, expressions_lead}
 
@@ -149,4 +150,5 @@ extract_is_walked p file from to name x = (
   piece_leads p file from to name x,
   λ depth super_at items spot u o row order puts w. first_leads p file from to name x depth super_at row items spot u puts o order w,
   λ depth super_at o row order w. rest_leads p file from to name x depth super_at row o order w,
+  λ below. let there = nearest_below begins p.rows x.body.key x.body.at x.way below in below_ordered begins p.rows x.body.key (element x).at there,
 )

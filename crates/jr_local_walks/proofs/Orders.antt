@@ -14,7 +14,7 @@ use Rattle.jr_local_walks.specs.Contexts.{Each, IsOf, IsLate, IsTyped, InMember,
 use Rattle.jr_local_walks.proofs.Lasts.{each_both}
 
 -- what is written is no known class
-written_typed : (rows : List Row) (t : tree.TypeName Span) (b : ClassKey) → local_type t ≡ known (class b) → (j : ℕ) × IsRowOf rows (class_decl b) j
+pub written_typed : (rows : List Row) (t : tree.TypeName Span) (b : ClassKey) → local_type t ≡ known (class b) → (j : ℕ) × IsRowOf rows (class_decl b) j
 written_typed rows (tree.int m) b e = absurd cc
 written_typed rows (tree.boolean m) b e = absurd cc
 written_typed rows (tree.named m o w) b e = absurd cc

@@ -32,14 +32,14 @@ none_is e = absurd cc
 
 -- ---- which locals come behind the number
 
-early_isnt : (k : MemberKey) (n : ℕ) (l : LocalKey) → l.number < n → is_from k n l ≡ false
+pub early_isnt : (k : MemberKey) (n : ℕ) (l : LocalKey) → l.number < n → is_from k n l ≡ false
 early_isnt k n l less = by (same_member l.member k)
   where
     by : (b : Bool) → (b && not (nat_lt l.number n)) ≡ false
     by false = refl
     by true = ap not (lt-ltb l.number n less)
 
-late_is : (k : MemberKey) (n : ℕ) (l : LocalKey) → l.member ≡ k → n ≤ l.number → is_from k n l ≡ true
+pub late_is : (k : MemberKey) (n : ℕ) (l : LocalKey) → l.member ≡ k → n ≤ l.number → is_from k n l ≡ true
 late_is k n l of le =
     (λ i. (member_decides l.member k).1 of i && not (nat_lt l.number n)) ∙ ap not (le-ltb l.number n le)
 

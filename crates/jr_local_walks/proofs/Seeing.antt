@@ -41,5 +41,5 @@ agree_by begins rows r to locals_to HasMade c scope locals there back gone = rec
   there = there;
   back = back;
   type = λ e u. ap (λ (g : Option GoneLocal). type_by same_keys (type_where g c e u)) gone ∙ same_type u;
-  types = λ es us. ap (λ (g : Option GoneLocal). types_by same_keys (types_where g c es us)) gone ∙ same_types us;
+  types = λ es us have. ap (λ (g : Option GoneLocal). types_by same_keys (types_where g c es us)) gone ∙ same_types us;
 }

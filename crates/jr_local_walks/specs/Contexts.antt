@@ -55,3 +55,8 @@ module _ (rows : List Row) (k : MemberKey) where
 
   abbrev pub IsWithin : Standing → Type 0
   IsWithin p = InMember p.context
+
+  -- all have numbers below that of the next one
+  abbrev pub IsBelow : Standing → Type 0
+  IsBelow p = (p.context.member ≡ k) × Each (IsEarly k p.next) p.context.locals
+      × Each (IsTyped rows) p.context.locals
