@@ -66,7 +66,7 @@ module _ {f : tree.Exp Span} where
     stmt_ends base (in_lock m e b d) = exp_ends m.from d
     stmt_ends base (in_locked m e b d) = list_ends m.from d
 
-    list_ends : {b : statement.Stmts Span} (base : ℕ) (d : ListWay f b) → list_end itself base d ≡ exp_mark f
+    pub list_ends : {b : statement.Stmts Span} (base : ℕ) (d : ListWay f b) → list_end itself base d ≡ exp_mark f
     list_ends base (first s ss d) = stmt_ends base d
     list_ends base (later s ss d) = list_ends base d
 

@@ -1,1 +1,2 @@
 pub mod OneSelected
+pub mod OnePlan

@@ -1,17 +1,20 @@
--- Keys of what doesn't move stay, and pull up moves its member to a key that no other has.
-use Rattle.std.proofs.Common.{◌≡◌, ◌≢◌, ◌∙◌, ◌||◌, ℕ, Bool, true, false, Decides, refl, sym, ap, if◌then◌else◌}
+-- Keys of what doesn't move stay, and the member that moves gets a key that no other has.
+use Rattle.std.proofs.Common.{◌≡◌, ◌≢◌, ◌∙◌, ◌||◌, ℕ, Bool, true, false, List, Some, Decides, refl, sym, ap, if◌then◌else◌}
+use Rattle.std.specs.Prelude.{slice_get}
 use Rattle.std.proofs.lemmas.Bool.{both_ways}
 use Rattle.jr_text.specs.declared.spans.Span.{Span}
 use Rattle.jr_table.specs.Keys.{ClassKey, FieldKey, MethodKey}
 use Rattle.jr_table.specs.Decls.{MemberKey, head, field, method, constructor}
 use Rattle.jr_table.specs.SameDecls.{same_member, member_decides, same_decl, decl_decides}
+use Rattle.jr_table.specs.Rows.{Row}
 use Rattle.jr_table.specs.Entries.{IsRowOf}
 use Rattle.jr_members.specs.WrittenMembers.{decl_of_member}
 use Rattle.jr_bind.specs.Programs.{Program}
 use Rattle.jr_images.specs.Regions.{Images, image_of_member}
-use Rattle.jr_member_moves.specs.Places.{in_class, field_moved, method_moved}
-use Rattle.jr_member_moves.specs.Moves.{Found, key}
-use Rattle.jr_member_moves.specs.Laws.{OthersStay, PullsUpMove, images_of}
+use Rattle.jr_member_moves.specs.Places.{in_class, field_moved, method_moved, moved_images}
+use Rattle.jr_member_moves.specs.Selecting.{is_in_the_way}
+use Rattle.jr_member_moves.specs.PullUp.{key}
+use Rattle.jr_member_moves.specs.Laws.{OthersStay, IsMove, PullsUpMove, MovesStaticMove}
 
 -- by a test, one of two
 chosen : {T P : Type 0} (b : Bool) → Decides b P → (x y : T) → P → (if b then x else y) ≡ x
@@ -45,15 +48,10 @@ first_false : (a b : Bool) → (a || b) ≡ false → a ≡ false
 first_false true b e = e
 first_false false b e = refl
 
-module _ (p : Program Span) (file at : ℕ) (f : Found p file at) where
-  abbrev moved : MemberKey
-  moved = f.declared.member.key
-
-  abbrev to : ClassKey
-  to = key p file at f
-
+module _ (p : Program Span) (moved : MemberKey) (to : ClassKey) (new : List Row)
+    (free : (i : ℕ) (r : Row) → slice_get p.rows i ≡ Some r → is_in_the_way to moved r ≡ false) where
   abbrev m : Images
-  m = images_of p file at f
+  m = moved_images moved to new
 
   goes : (k : MemberKey) → k ≡ moved → image_of_member m k ≡ in_class to k
   goes (head k) is = refl
@@ -68,11 +66,11 @@ module _ (p : Program Span) (file at : ℕ) (f : Found p file at) where
   others (constructor k) other = refl
 
   -- no declared member has the new key
-  free : (k : MemberKey) (j : ℕ) → IsRowOf p.rows (decl_of_member k) j → k ≢ in_class to moved
-  free k j r is =
+  none_there : (k : MemberKey) (j : ℕ) → IsRowOf p.rows (decl_of_member k) j → k ≢ in_class to moved
+  none_there k j r is =
       let declares : r.row.decl ≡ decl_of_member (in_class to moved) = r.declares ∙ ap decl_of_member is in
       both_ways (same_decl r.row.decl (decl_of_member (in_class to moved)))
-      (first_false (same_decl r.row.decl (decl_of_member (in_class to moved))) _ (f.free.free j r.row r.stands))
+      (first_false (same_decl r.row.decl (decl_of_member (in_class to moved))) _ (free j r.row r.stands))
       ((decl_decides r.row.decl (decl_of_member (in_class to moved))).1 declares)
 
   alone : (k : MemberKey) (j : ℕ) → IsRowOf p.rows (decl_of_member k) j → image_of_member m k ≡ image_of_member m moved → k ≡ moved
@@ -82,14 +80,21 @@ module _ (p : Program Span) (file at : ℕ) (f : Found p file at) where
       by_test true d = d.0 refl
       by_test false d =
           let other : k ≢ moved = (λ e. both_ways false refl (d.1 e)) in
-          absurd (free k j r (sym (others k other) ∙ (same ∙ goes moved refl)))
+          absurd (none_there k j r (sym (others k other) ∙ (same ∙ goes moved refl)))
+
+  is_move : IsMove p m moved to
+  is_move = record {
+    classes = λ k. refl;
+    constructors = λ k. refl;
+    names = λ d old. refl;
+    goes = goes moved refl;
+    others = others;
+    alone = alone;
+  }
 
 pub pulls_up_move : PullsUpMove
-pulls_up_move p file at f = record {
-  classes = λ k. refl;
-  constructors = λ k. refl;
-  names = λ d old. refl;
-  goes = goes p file at f f.declared.member.key refl;
-  others = others p file at f;
-  alone = alone p file at f;
-}
+pulls_up_move p file at f = is_move p f.declared.member.key (key p file at f) _ f.free.free
+
+pub moves_static_move : MovesStaticMove
+moves_static_move p file at text f =
+    is_move p f.asked.declared.member.key f.other.key _ f.free

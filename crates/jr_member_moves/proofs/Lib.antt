@@ -3,3 +3,4 @@
 pub mod Keys
 pub mod Apart
 mod Cases
+mod StaticCases

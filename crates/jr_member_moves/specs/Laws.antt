@@ -11,7 +11,8 @@ use Rattle.jr_rewrite.specs.Spots.{SpotsAreApart}
 use Rattle.jr_images.specs.Regions.{Images, image_of_member}
 use Rattle.jr_plan.specs.Transforms.{Transform}
 use Rattle.jr_member_moves.specs.Places.{in_class, field_moved}
-use Rattle.jr_member_moves.specs.Moves.{Found, key, pull_up}
+use Rattle.jr_member_moves.specs.PullUp.{Found, key, pull_up}
+use Rattle.jr_member_moves.specs.MoveStatic as static
 
 -- a field that isn't the member has its key
 abbrev pub OthersStay : Type 0
@@ -49,3 +50,22 @@ PullsUpMove = (p : Program Span) (file at : ℕ) (f : Found p file at)
 abbrev pub PullUpIsApart : Type 0
 PullUpIsApart = (p : Program Span) (file at : ℕ) (f : Found p file at) (n : ℕ)
     → SpotsAreApart ((pulled_up p file at f).spots n)
+
+-- ---- move static
+
+module _ (p : Program Span) (file at : ℕ) (text : List ℕ) (f : static.Found p file at text) where
+  abbrev pub moved_over : Transform
+  moved_over = (static.move_static p file at text).transform f
+
+-- Move static moves the method to the class (JLS 8.2).
+abbrev pub MovesStaticMove : Type 0
+MovesStaticMove = (p : Program Span) (file at : ℕ) (text : List ℕ)
+    (f : static.Found p file at text)
+    → IsMove p (moved_over p file at text f).region.seen.images f.asked.declared.member.key
+    f.other.key
+
+-- Its spots are used, calls through a class too.
+abbrev pub MoveStaticIsApart : Type 0
+MoveStaticIsApart = (p : Program Span) (file at : ℕ) (text : List ℕ)
+    (f : static.Found p file at text) (n : ℕ)
+    → SpotsAreApart ((moved_over p file at text f).spots n)

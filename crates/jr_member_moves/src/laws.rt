@@ -1,5 +1,11 @@
-//! What holds of keys, and of what pull up makes of a program.
-ghost use Rattle.jr_member_moves.specs.Laws.{OthersStay, PullsUpMove, PullUpIsApart};
+//! What holds of keys, and of what pull up and move static make of a program.
+ghost use Rattle.jr_member_moves.specs.Laws.{
+  OthersStay,
+  PullsUpMove,
+  PullUpIsApart,
+  MovesStaticMove,
+  MoveStaticIsApart,
+};
 
 /// A member that doesn't move keeps its key (JLS 8.2).
 pub fn other_members_stay()
@@ -16,4 +22,15 @@ pub fn pulls_up_move()
 /// are never rewritten node by node.
 pub fn pull_up_is_apart()
     ensures { PullUpIsApart }
+{}
+
+/// Move static moves one method to the class, in the same way.
+pub fn moves_static_move()
+    ensures { MovesStaticMove }
+{}
+
+/// The spots of a move static are used: those of a pull up, and each call of the method through a
+/// class, in whose arguments others may stand.
+pub fn move_static_is_apart()
+    ensures { MoveStaticIsApart }
 {}
