@@ -17,9 +17,8 @@ use Rattle.jr_table.specs.Scope.{Scope}
 use Rattle.jr_table.specs.Calls.{Fit, IsCtorCandidate}
 use Rattle.jr_table.specs.Lookup.{FindsCtorOf}
 use Rattle.jr_table.specs.Context.{Context, scope_of, IsSuperclass}
-use Rattle.jr_images.specs.Images.{Renaming, class_to, ctor_to, rows_to}
-use Rattle.jr_images.specs.Standing.{ContextTo}
-use Rattle.jr_images.proofs.Places.{scope_image, superclass_image}
+use Rattle.jr_images.specs.Images.{Renaming, class_to, ctor_to, scope_to, rows_to}
+use Rattle.jr_images.proofs.Places.{superclass_image}
 use Rattle.jr_code.specs.CodedMembers.{ImplicitFinds}
 
 -- ---- numbers of classes
@@ -111,13 +110,13 @@ module _ (rows : List Row) (are : AreRows rows) where
       let row : x.row ≡ y.row = cc in
       let parents : Some p ≡ Some q = sym is ∙ ap (λ (z : Row). z.parent) row ∙ was in cc
 
-pub implicit : (rows : List Row) (g : Renaming) → AreRows rows → AreRows (rows_to g rows) → (c d : Context) → ContextTo g rows c d → (q n : CtorKey) → ImplicitFinds rows c q → ImplicitFinds (rows_to g rows) d n → n ≡ ctor_to g q
+pub implicit : (rows : List Row) (g : Renaming) → AreRows rows → AreRows (rows_to g rows) → (c d : Context) → scope_of d ≡ scope_to g c → (q n : CtorKey) → ImplicitFinds rows c q → ImplicitFinds (rows_to g rows) d n → n ≡ ctor_to g q
 implicit rows g are new c d stand q n (inl (p, over, finds)) (inl (k, above, found)) =
     let place = parent_row rows are (scope_of c).class p over in
     let there = parent_row (rows_to g rows) new (scope_of d).class k above in
     let old_is = alone rows are (scope_of c) p place.0 place.1 q finds in
     let new_is = alone (rows_to g rows) new (scope_of d) k there.0 there.1 n found in
-    let image = subst (λ (s : Scope). IsSuperclass (rows_to g rows) s.class (class_to g p)) (sym (scope_image g rows c d stand)) (superclass_image g rows (scope_of c).class p over) in
+    let image = subst (λ (s : Scope). IsSuperclass (rows_to g rows) s.class (class_to g p)) (sym stand) (superclass_image g rows (scope_of c).class p over) in
     let same : k ≡ class_to g p = parent_once (rows_to g rows) new (scope_of d).class k (class_to g p) above image in
     new_is ∙ (λ i. record { class = same i; params = [] }) ∙ sym (ap (ctor_to g) old_is)
 implicit rows g are new c d stand q n (inr (not, is)) b = absurd cc

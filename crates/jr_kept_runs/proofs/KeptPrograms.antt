@@ -16,11 +16,11 @@ use Rattle.jr_table.specs.Decls.{MemberKey, method, constructor, method_decl, co
 use Rattle.jr_table.specs.Rows.{Row}
 use Rattle.jr_table.specs.Prelude.{prelude_rows, ctor_row, thread_row, top_key, object_key, thread_key}
 use Rattle.jr_table.specs.Conditions.{AreRows}
-use Rattle.jr_table.specs.LookupLaws.{EachHasOne}
 use Rattle.jr_table.specs.DeclaredItems.{declarations_of}
 use Rattle.jr_table.specs.ProgramRows.{AreProgramRows}
 use Rattle.jr_table.specs.Context.{Context}
 use Rattle.jr_table.specs.BindingLaws.{IsBound}
+use Rattle.jr_spell.specs.Rebound.{AreFronts}
 use Rattle.jr_members.specs.WrittenMembers.{written_members}
 use Rattle.jr_members.specs.WrittenLaws.{AreWritten}
 use Rattle.jr_members.proofs.DeclarationRows.{once, not_reserved}
@@ -29,6 +29,7 @@ use Rattle.jr_rewrite.specs.Rewrites.{RewritesUnits}
 use Rattle.jr_images.specs.Images.{Renaming, method_to, ctor_to, row_to, rows_to}
 use Rattle.jr_images.specs.Spelling.{spelling}
 use Rattle.jr_images.specs.Standing.{ContextTo}
+use Rattle.jr_images.specs.RenameLaws.{IsFair}
 use Rattle.jr_rename_laws.specs.Beside.{UnitsBeside}
 use Rattle.jr_rename_laws.specs.ImageLaws.{IsClassImage, IsMemberImage}
 use Rattle.jr_images.proofs.World.{World}
@@ -36,8 +37,8 @@ use Rattle.jr_rename_laws.proofs.DeclarationRows.{no_locals, no_local_at}
 use Rattle.jr_code.specs.RunKeys.{RunKeys}
 use Rattle.jr_code.specs.Exchanged.{exchanged}
 use Rattle.jr_code.specs.Programs.{IsCodeOf}
-use Rattle.jr_code.proofs.OneFound.{super_once}
-use Rattle.jr_kept_runs.specs.KeysTo.{keys_to, AreDeclared}
+use Rattle.jr_image_code.specs.KeysIn.{AreDeclared}
+use Rattle.jr_kept_runs.specs.KeysTo.{keys_to}
 use Rattle.jr_kept_runs.specs.TablesAgree.{TablesAgree}
 use Rattle.jr_kept_runs.specs.KeepsRuns.{KeepsRuns}
 use Rattle.jr_kept_runs.proofs.KeptCode.{ToCode, ToMethod, no_more_to, method_agrees, code_agrees}
@@ -72,7 +73,8 @@ module _ (rows : List Row) (g : Renaming) (are : AreRows rows) (news : AreRows (
       let p : constructor_decl (ctor_to g (record { class = k; params = [] })) ≡ constructor_decl (record { class = k; params = [] }) = ap (λ (z : Row). z.decl) (stays rows g are news n (ctor_row [] k) e) in cc
 
 module _ {A : Type 0} (tells : A → ℕ → Span) (last : A → ℕ → ℕ) (rows : List Row) (g : Renaming) (super_at super_at' : MemberKey → ℕ) (units news : List (syntax.Unit A)) (files : List (Rewritten (syntax.Unit A)))
-    (are : AreRows rows) (agree : TablesAgree rows g) (one_old : EachHasOne rows) (bound_old : (c : Context) → IsBound A rows c) (worlds : (c d : Context) → ContextTo g rows c d → World A rows g c d)
+    (are : AreRows rows) (agree : TablesAgree rows g) (bound_old : (c : Context) → IsBound A rows c) (bound_new : (d : Context) → IsBound A (rows_to g rows) d) (fronts : (d : Context) → AreFronts A (rows_to g rows) d)
+    (worlds : (c d : Context) → ContextTo g rows c d → World A rows g c d) (fair : IsFair rows g)
     (program : AreProgramRows (declarations_of (λ (m : A) b. (tells m b).from) units) rows) (written : AreWritten (λ (m : A) b. (tells m b).from) units rows (written_members (λ (m : A) b. (tells m b).from) rows units))
     (made : RewritesUnits tells (spelling (λ m b. (tells m b).from) rows g (λ (c : Context). super_at c.member)) (declarations_of (λ (m : A) b. (tells m b).from) units) units files) (kept : AllKept files)
     (read : map bare_unit news ≡ map (λ (o : Rewritten (syntax.Unit A)). bare_unit o.tree) files)
@@ -87,16 +89,16 @@ module _ {A : Type 0} (tells : A → ℕ → Span) (last : A → ℕ → ℕ) (r
 
     -- what is written, and constructors that aren't
     method_here : (k : MethodKey) → OfUnits begins (declarations_of begins units) units (method k) → ToMethod (exchanged (keys_to g) rows) P.rows (P.method k) (Q.method (method_to g k))
-    method_here k here = units_walk tells last rows g (λ (c : Context). super_at c.member) worlds (exchanged (keys_to g) rows) (maps rows g agree) P.rows has
+    method_here k here = units_walk tells last rows g (λ (c : Context). super_at c.member) worlds fair bound_old bound_new fronts (exchanged (keys_to g) rows) (maps rows g agree) P.rows has
         (λ l j i. no_local_at rows (no_locals (declarations_of begins units) rows program) j i.row i.stands l i.declares) (casts rows g agree) (λ c place e t h. type_known rows are c place e t h) super_at super_at'
-        (λ c d stand q n x y. implicit rows g are agree.new c d stand q n x y) (λ c d stand args x y a b. super_once rows are one_old c (bound_old c) args x y a b)
+        are (λ c d same q n x y. implicit rows g are agree.new c d same q n x y)
         (declarations_of begins units) (declarations_of begins news) (one_key begins (declarations_of begins units) (once (declarations_of begins units) rows are program) (not_reserved (declarations_of begins units) rows are program))
         P Q (λ l row t of. parameters_known rows are l row t of) units files news read made kept beside (rowed begins units rows program written) old.members new.members (method k) here
 
     ctor_here : (k : CtorKey) → OfUnits begins (declarations_of begins units) units (constructor k) → ToCode (exchanged (keys_to g) rows) P.rows (P.constructor k) (Q.constructor (ctor_to g k))
-    ctor_here k here = units_walk tells last rows g (λ (c : Context). super_at c.member) worlds (exchanged (keys_to g) rows) (maps rows g agree) P.rows has
+    ctor_here k here = units_walk tells last rows g (λ (c : Context). super_at c.member) worlds fair bound_old bound_new fronts (exchanged (keys_to g) rows) (maps rows g agree) P.rows has
         (λ l j i. no_local_at rows (no_locals (declarations_of begins units) rows program) j i.row i.stands l i.declares) (casts rows g agree) (λ c place e t h. type_known rows are c place e t h) super_at super_at'
-        (λ c d stand q n x y. implicit rows g are agree.new c d stand q n x y) (λ c d stand args x y a b. super_once rows are one_old c (bound_old c) args x y a b)
+        are (λ c d same q n x y. implicit rows g are agree.new c d same q n x y)
         (declarations_of begins units) (declarations_of begins news) (one_key begins (declarations_of begins units) (once (declarations_of begins units) rows are program) (not_reserved (declarations_of begins units) rows are program))
         P Q (λ l row t of. parameters_known rows are l row t of) units files news read made kept beside (rowed begins units rows program written) old.members new.members (constructor k) here
 

@@ -19,9 +19,9 @@ use Rattle.jr_table.specs.Binding.{HasType, sign_type, operator_type}
 use Rattle.jr_table.specs.HeadRules.{types_of}
 use Rattle.jr_members.specs.WrittenMembers.{decl_of_member}
 use Rattle.jr_code.specs.RunRows.{HasRow}
-use Rattle.jr_kept_runs.specs.CastsAgree.{IsKnown, IsPlace}
-use Rattle.jr_kept_runs.proofs.ExpImages.{shown_row, written_row}
-use Rattle.jr_kept_runs.proofs.MemberImages.{Of}
+use Rattle.jr_image_code.specs.KnownPlaces.{IsKnown, IsPlace}
+use Rattle.jr_image_code.proofs.ExpImages.{shown_row, written_row}
+use Rattle.jr_image_code.proofs.MemberImages.{Of}
 
 in_front : (xs ys : List Row) (n : ℕ) (row : Row) → slice_get xs n ≡ Some row → slice_get (xs ++ ys) n ≡ Some row
 in_front [] ys n row e = absurd cc

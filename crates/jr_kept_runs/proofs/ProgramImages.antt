@@ -13,21 +13,25 @@ use Rattle.jr_runs.specs.MemberTranslation.{in_front}
 use Rattle.jr_runs.specs.Rows as core_rows
 use Rattle.jr_runs.specs.KeyMaps.{KeyMap}
 use Rattle.jr_table.specs.Keys.{ClassKey, MethodKey, CtorKey, Ty}
-use Rattle.jr_table.specs.Decls.{MemberKey, head, method, constructor, Decl, class_decl}
+use Rattle.jr_table.specs.Decls.{MemberKey, head, method, constructor, class_decl}
 use Rattle.jr_table.specs.Rows.{Row}
 use Rattle.jr_table.specs.Entries.{IsRowOf}
-use Rattle.jr_table.specs.Found.{one}
 use Rattle.jr_table.specs.DeclaredItems.{DeclaredItem, class_key, writes_ctor}
 use Rattle.jr_table.specs.Errors.{Part, Declares, InClass, InMembers, InInner, InClasses, InUnits}
-use Rattle.jr_table.specs.Context.{Context}
+use Rattle.jr_table.specs.Conditions.{AreRows}
+use Rattle.jr_table.specs.Context.{Context, scope_of}
 use Rattle.jr_table.specs.HeadRules.{plain as no_locals, types_of}
-use Rattle.jr_table.specs.Binding.{HasType, SuperCtorFinds}
+use Rattle.jr_table.specs.Binding.{HasType}
+use Rattle.jr_table.specs.BindingLaws.{IsBound}
+use Rattle.jr_spell.specs.Rebound.{AreFronts}
 use Rattle.jr_members.specs.WrittenMembers.{decl_of_member}
 use Rattle.jr_rewrite.specs.Rewritten.{Rewritten, joined, within}
 use Rattle.jr_rewrite.specs.Rewrites.{Choosing, RewritesMember, RewritesOne, RewritesMembers, RewritesClass, RewritesClasses, RewritesUnits, TransformsClass, TransformsMembers, TransformsOne}
-use Rattle.jr_images.specs.Images.{Renaming, class_to, method_to, ctor_to, member_to, type_to, rows_to}
+use Rattle.jr_images.specs.Images.{Renaming, class_to, method_to, ctor_to, member_to, type_to, scope_to, rows_to}
 use Rattle.jr_images.specs.Spelling.{spelling}
 use Rattle.jr_images.specs.Standing.{ContextTo}
+use Rattle.jr_images.specs.RenameLaws.{IsFair}
+use Rattle.jr_images.proofs.Places.{scope_image}
 use Rattle.jr_rename_laws.specs.ImageLaws.{IsClassImage, IsMemberImage}
 use Rattle.jr_rename_laws.specs.Beside.{ClassBeside, MembersBeside, MemberBeside, ClassesBeside, UnitsBeside}
 use Rattle.jr_images.proofs.Chosen.{left_none, right_none, lost_none}
@@ -37,15 +41,16 @@ use Rattle.jr_code.specs.RunKeys.{RunKeys}
 use Rattle.jr_code.specs.CodedStatements.{StatementCode}
 use Rattle.jr_code.specs.CodedMembers.{ImplicitFinds, DefaultCoded, OneCoded, ClassCoded, MembersCoded, InnerCoded, ClassesCoded, UnitsCoded}
 use Rattle.jr_code.specs.RunRows.{HasRow}
-use Rattle.jr_kept_runs.specs.KeysTo.{keys_to, MapsAs, AreDeclared}
-use Rattle.jr_kept_runs.specs.CastsAgree.{IsKnown, CastsAgree, IsPlace}
+use Rattle.jr_image_code.specs.KnownPlaces.{IsKnown, IsPlace}
+use Rattle.jr_image_code.specs.KeysIn.{MapsAs, AreDeclared}
+use Rattle.jr_image_code.proofs.StmtImages.{HasNoRows}
+use Rattle.jr_image_code.proofs.MemberImages.{Of}
+use Rattle.jr_kept_runs.specs.KeysTo.{keys_to}
+use Rattle.jr_kept_runs.specs.CastsAgree.{CastsAgree}
 use Rattle.jr_kept_runs.proofs.KeptCode.{ToCode, ToMethod, end_to, no_more_to, list_to}
-use Rattle.jr_kept_runs.proofs.StmtImages.{HasNoRows}
 use Rattle.jr_kept_runs.proofs.SameBodies.{no_stmt_places, AllAgain, recode_method, recode_inits, recode_constructor}
 use Rattle.jr_kept_runs.proofs.Elsewhere.{stmt_elsewhere, code_elsewhere, method_elsewhere}
-use Rattle.jr_kept_runs.proofs.MemberImages.{Of, method_image}
-use Rattle.jr_kept_runs.proofs.ConstructorImages.{in_front_image, implicit_row, parent_by, constructor_image}
-use Rattle.jr_kept_runs.proofs.InitImages.{Inits, Written, inits_walk}
+use Rattle.jr_kept_runs.proofs.RenamedCode.{method_image, in_front_image, implicit_row, parent_by, constructor_image, Inits, Rowed as RowedIn, inits_walk}
 
 -- a class writes the method or constructor, or has it as a constructor that isn't written (JLS 8.8.9)
 module _ {A : Type 0} (begins : A → ℕ → ℕ) (declarations : List DeclaredItem) where
@@ -93,10 +98,10 @@ AllKept [] = Unit {0}
 AllKept (o ∷ os) = (o.losses ≡ []) × AllKept os
 
 module _ {A : Type 0} (tells : A → ℕ → Span) (last : A → ℕ → ℕ) (rows : List Row) (g : Renaming) (super_at : Context → ℕ) (worlds : (c d : Context) → ContextTo g rows c d → World A rows g c d)
+    (fair : IsFair rows g) (bound_old : (c : Context) → IsBound A rows c) (bound_new : (d : Context) → IsBound A (rows_to g rows) d) (fronts : (d : Context) → AreFronts A (rows_to g rows) d)
     (keys : KeyMap RunKeys) (maps : MapsAs keys (keys_to g) rows) (R : core_rows.Rows RunKeys) (has : AreDeclared rows R) (no_rows : HasNoRows rows)
     (casts : CastsAgree rows (rows_to g rows) (type_to g)) (known : (c : Context) → IsPlace rows c → (e : tree.Exp A) (t : Ty) → HasType rows c e t → IsKnown rows t) (places places' : MemberKey → ℕ)
-    (implicit : (c d : Context) → ContextTo g rows c d → (q n : CtorKey) → ImplicitFinds rows c q → ImplicitFinds (rows_to g rows) d n → n ≡ ctor_to g q)
-    (old_once : (c d : Context) → ContextTo g rows c d → (args : tree.Exps A) (x y : Decl) → SuperCtorFinds rows c args (one x) → SuperCtorFinds rows c args (one y) → x ≡ y)
+    (are : AreRows rows) (implicit : (c d : Context) → scope_of d ≡ scope_to g c → (q n : CtorKey) → ImplicitFinds rows c q → ImplicitFinds (rows_to g rows) d n → n ≡ ctor_to g q)
     (declarations declarations' : List DeclaredItem) (one_key : (b : ℕ) (of : ClassKey) (x : syntax.Member A) (j k : MemberKey) → Declares (λ m b. (tells m b).from) declarations b of x j → Declares (λ m b. (tells m b).from) declarations b of x k → j ≡ k)
     (P Q : core.Program RunKeys) (types_known : (k : MemberKey) → HasRow rows (decl_of_member k) → (t : Ty) → Of t (types_of k) → IsKnown rows t) where
   abbrev begins : A → ℕ → ℕ
@@ -116,10 +121,10 @@ module _ {A : Type 0} (tells : A → ℕ → Span) (last : A → ℕ → ℕ) (r
   Nothing k b part = Unit {0}
 
   abbrev Kept : List StatementCode → List StatementCode → Type 0
-  Kept ss ts = Inits tells last rows g super_at worlds keys maps R has no_rows casts known places places' implicit old_once declarations ss ts
+  Kept ss ts = Inits tells last rows g super_at worlds fair bound_old bound_new fronts keys maps R has no_rows casts known places places' are implicit declarations ss ts
 
   abbrev Rowed : (b : ℕ) → ClassKey → syntax.Members A → Type 0
-  Rowed b of ms = Written tells last rows g super_at worlds keys maps R has no_rows casts known places places' implicit old_once declarations b of ms
+  Rowed b of ms = RowedIn tells last rows g super_at worlds fair bound_old bound_new fronts keys maps R has no_rows casts known places places' are implicit declarations b of ms
 
   -- what is kept of a member
   abbrev pub Goal : MemberKey → Type 0
@@ -167,8 +172,8 @@ module _ {A : Type 0} (tells : A → ℕ → Span) (last : A → ℕ → ℕ) (r
         let mine = subst (λ (z : MemberKey). Declares begins declarations b of (syntax.method m mods t w ps body) z) r.1 here in
         let coded = new.0 (method_to g r.0) (image (method r.0) mine) in
         let again = recode_method begins last (rows_to g rows) places' (method_to g r.0) i b y p.tree e (Q.method (method_to g r.0)) coded in
-        let kept = method_image tells last rows g super_at worlds keys maps R has no_rows casts known places places' r.0 row.0 (subst (λ (z : ClassKey). IsRowOf rows (class_decl z) row.0) (sym r.2) row.1) (types (method r.0) mine) b m mods t w ps body p
-        (subst (λ (z : MemberKey). RewritesMember tells Chosen z b (syntax.method m mods t w ps body) p) (one_key b of (syntax.method m mods t w ps body) j k declares here ∙ r.1) made) none b b (P.method r.0) again.0 (old.0 r.0 mine) again.1 in
+        let kept = method_image tells last rows g super_at worlds fair bound_old bound_new fronts keys maps R has no_rows casts known places places' are implicit r.0 row.0 (subst (λ (z : ClassKey). IsRowOf rows (class_decl z) row.0) (sym r.2) row.1) (types (method r.0) mine) b m mods t w ps body p
+        (subst (λ (z : MemberKey). RewritesMember tells Chosen z b (syntax.method m mods t w ps body) p) (one_key b of (syntax.method m mods t w ps body) j k declares here ∙ r.1) made) none b (P.method r.0) again.0 (old.0 r.0 mine) again.1 in
         subst Goal (sym r.1) (method_elsewhere keys R (P.method r.0) again.0 (Q.method (method_to g r.0)) again.2 kept)
       where
         k_is : (k : MemberKey) → Declares begins declarations b of (syntax.method m mods t w ps body) k → (r : MethodKey) × (k ≡ method r) × (r.class ≡ of)
@@ -183,8 +188,8 @@ module _ {A : Type 0} (tells : A → ℕ → Span) (last : A → ℕ → ℕ) (r
         let mine = subst (λ (z : MemberKey). Declares begins declarations b of (syntax.constructor m mods w ps args body) z) r.1 here in
         let coded = new.1 (ctor_to g r.0) (image (constructor r.0) mine) in
         let again = recode_constructor begins last (rows_to g rows) places' (ctor_to g r.0) i b ts us same y p.tree e (Q.constructor (ctor_to g r.0)) coded in
-        let kept = constructor_image tells last rows g super_at worlds keys maps R has no_rows casts known places places' implicit old_once r.0 (row.0, subst (λ (z : ClassKey). IsRowOf rows (class_decl z) row.0) (sym r.2) row.1) (types (constructor r.0) mine) b m mods w ps args body p
-        (subst (λ (z : MemberKey). RewritesMember tells Chosen z b (syntax.constructor m mods w ps args body) p) (one_key b of (syntax.constructor m mods w ps args body) j k declares here ∙ r.1) made) none b b ss us inits (P.constructor r.0) again.0
+        let kept = constructor_image tells last rows g super_at worlds fair bound_old bound_new fronts keys maps R has no_rows casts known places places' are implicit r.0 (row.0, subst (λ (z : ClassKey). IsRowOf rows (class_decl z) row.0) (sym r.2) row.1) (types (constructor r.0) mine) b m mods w ps args body p
+        (subst (λ (z : MemberKey). RewritesMember tells Chosen z b (syntax.constructor m mods w ps args body) p) (one_key b of (syntax.constructor m mods w ps args body) j k declares here ∙ r.1) made) none b ss us inits (P.constructor r.0) again.0
         (old.1 r.0 mine) again.1 in
         subst Goal (sym r.1) (code_elsewhere keys R (P.constructor r.0) again.0 (Q.constructor (ctor_to g r.0)) again.2 kept)
       where
@@ -202,10 +207,10 @@ module _ {A : Type 0} (tells : A → ℕ → Span) (last : A → ℕ → ℕ) (r
         let d = no_locals (member_to g (head of)) true in
         let stand = plain_to tells rows g super_at worlds (head of) true in
         let moved = subst (λ (z : ClassKey). ImplicitFinds (rows_to g rows) (no_locals (head z) true) n) to found in
-        let row = implicit_row tells last rows g super_at worlds keys maps R has no_rows casts known places places' implicit c x finds in
-        let first = parent_by tells last rows g super_at worlds keys maps R has no_rows casts known places places' implicit 0 x n row.0 row.1 (implicit c d stand x n finds moved) None None core.Exps.end core.Exps.end end_to
+        let row = implicit_row tells last rows g super_at worlds fair bound_old bound_new fronts keys maps R has no_rows casts known places places' are implicit c x finds in
+        let first = parent_by tells last rows g super_at worlds fair bound_old bound_new fronts keys maps R has no_rows casts known places places' are implicit 0 x n row.0 row.1 (implicit c d (scope_image g rows c d stand) x n finds moved) None None core.Exps.end core.Exps.end end_to
         (core.eval None (core.super_constructor None (core.this None) x core.Exps.end)) (core.eval None (core.super_constructor None (core.this None) n core.Exps.end)) refl refl in
-        let rest = in_front_image tells last rows g super_at worlds keys maps R has no_rows casts known places places' implicit 0 ss ts core.Stmts.end core.Stmts.end (inits_elsewhere ss ts us same inits 0) no_more_to in
+        let rest = in_front_image tells last rows g super_at worlds fair bound_old bound_new fronts keys maps R has no_rows casts known places places' are implicit 0 ss ts core.Stmts.end core.Stmts.end (inits_elsewhere ss ts us same inits 0) no_more_to in
         let code : ToCode keys R (P.constructor (record { class = of; params = [] })) (Q.constructor (record { class = of'; params = [] })) =
         subst (λ (z : core.Code RunKeys). ToCode keys R z (Q.constructor (record { class = of'; params = [] }))) (sym old)
         (subst (λ (z : core.Code RunKeys). ToCode keys R (record { params = 0; body = core.Stmts.more (core.eval None (core.super_constructor None (core.this None) x core.Exps.end)) (in_front ss core.Stmts.end) }) z) (sym new)
@@ -227,7 +232,7 @@ module _ {A : Type 0} (tells : A → ℕ → Span) (last : A → ℕ → ℕ) (r
         let trees : map_members no_mark ns ≡ map_members no_mark z.tree = cc in
         let again = recode_inits begins last (rows_to g rows) places' (class_key begins p v.text) (begins l i) (begins m b) ns z.tree trees ts coded in
         let owner = rowed (head (class_key begins o w.text)) (inl (refl, tt)) in
-        let kept = inits_walk tells last rows g super_at worlds keys maps R has no_rows casts known places places' implicit old_once declarations (class_key begins o w.text) (class_key begins p v.text) beside.0 owner (begins m b) ms z made lost
+        let kept = inits_walk tells last rows g super_at worlds fair bound_old bound_new fronts keys maps R has no_rows casts known places places' are implicit declarations (class_key begins o w.text) (class_key begins p v.text) beside.0 owner (begins m b) ms z made lost
         (λ j later. rowed j (inr later)) ss again.0 inits again.1 in
         elim here [
           | inl (lacks, that) ↦ subst Goal (sym that) (default_walk (class_key begins o w.text) (class_key begins p v.text) beside.0 ss ts again.0 again.2 kept (default lacks)

@@ -10,7 +10,8 @@ use Rattle.jr_table.specs.Rows.{Row}
 use Rattle.jr_images.specs.Images.{Renaming, rows_to}
 use Rattle.jr_code.specs.RunKeys.{RunKeys}
 use Rattle.jr_code.specs.RunRows.{AreRunRows}
-use Rattle.jr_kept_runs.specs.KeysTo.{keys_to, AreDeclared}
+use Rattle.jr_image_code.specs.KeysIn.{AreDeclared}
+use Rattle.jr_kept_runs.specs.KeysTo.{keys_to}
 use Rattle.jr_code.specs.Exchanged.{exchanged}
 use Rattle.jr_kept_runs.specs.TablesAgree.{TablesAgree}
 use Rattle.jr_kept_runs.proofs.SameTables.{undoes, same_rows}

@@ -4,7 +4,8 @@ use Rattle.jr_table.specs.Keys.{ClassKey, Ty, int, boolean, void, null, class}
 use Rattle.jr_table.specs.Rows.{Row}
 use Rattle.jr_table.specs.Keyed.{IsSubclass, Widens}
 use Rattle.jr_images.specs.Images.{Renaming, class_to, type_to, rows_to}
-use Rattle.jr_kept_runs.specs.CastsAgree.{IsKnown, CastsAgree}
+use Rattle.jr_image_code.specs.KnownPlaces.{IsKnown}
+use Rattle.jr_kept_runs.specs.CastsAgree.{CastsAgree}
 use Rattle.jr_code.specs.Exchanged.{exchanged}
 use Rattle.jr_kept_runs.specs.KeysTo.{keys_to}
 use Rattle.jr_kept_runs.specs.TablesAgree.{TablesAgree}

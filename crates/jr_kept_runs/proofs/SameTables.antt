@@ -19,7 +19,8 @@ use Rattle.jr_images.specs.Images.{Renaming, class_to, field_to, method_to, ctor
 use Rattle.jr_images.proofs.Places.{row_image}
 use Rattle.jr_code.specs.RunKeys.{RunKeys}
 use Rattle.jr_code.specs.RunRows.{kind_of_words, run_type, held_type, HasRow, AreRunRows}
-use Rattle.jr_kept_runs.specs.KeysTo.{keys_to, MapsAs}
+use Rattle.jr_image_code.specs.KeysIn.{MapsAs}
+use Rattle.jr_kept_runs.specs.KeysTo.{keys_to}
 use Rattle.jr_code.specs.Exchanged.{with_key, keys_by, class_in, field_in, method_in, ctor_in, exchanged}
 use Rattle.jr_kept_runs.specs.TablesAgree.{TablesAgree}
 use Rattle.jr_code.proofs.Exchanging.{image, undone, among_or}

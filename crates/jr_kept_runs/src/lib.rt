@@ -1,5 +1,5 @@
-//! The code of what a refactoring rewrites is the image of the old code, so that runs are kept.
-//! Laws alone; nothing in it is executed.
+//! A rename keeps runs: the code of what it rewrites is the image of the old code (`jr_image_code`),
+//! as the case of one region without spots. Laws alone; nothing in it is executed.
 //!
 //! `specs/KeepsRuns`: what is kept of runs, whatever becomes of keys: whatever resolved programs
 //! (`jr_code`) the old and the new sources are, they are exactly alike (`jr_runs: AlikeExactly`).

@@ -25,7 +25,8 @@ returns c p q text file at new edits renaming respelled is read rows images =
     let one_old = c.lookups_are_exact.ensures.one p.rows is.program.are_rows in
     let bound_old = c.types_are_exact.ensures.bound p.rows is.program.are_rows (c.lookups_are_exact.ensures.keys p.rows is.program.are_rows) in
     subst (λ (z : List Row). KeepsRuns (keys_to is.planned.found.g) (sources_of p) (record { begins = begins; ends = last_of; rows = z; super_at = q.super_at; units = units_of q })) (sym rows)
-    (runs_stay itself last_of p.rows is.planned.found.g p.super_at q.super_at (units_of p) (units_of q) is.planned.becomes.files is.program.are_rows tables one_old bound_old
+    (runs_stay itself last_of p.rows is.planned.found.g p.super_at q.super_at (units_of p) (units_of q) is.planned.becomes.files is.program.are_rows tables bound_old
+    (λ to. c.types_are_exact.ensures.bound _ fair.are (c.lookups_are_exact.ensures.keys _ fair.are) to) (λ to. c.spellings_rebind.ensures.fronts _ to)
     (λ from to stand. record {
       are = fair.are;
       one_old = one_old;
@@ -40,4 +41,5 @@ returns c p q text file at new edits renaming respelled is read rows images =
       string = fair.string;
       class = fair.class;
     })
+    fair
     is.program.rows (c.members_are_written.ensures begins (units_of p) p.rows is.program.are_rows is.program.rows) (rewrite_back p is.planned.found.g is.planned.becomes) (all_kept is.planned.becomes.files (none_loses p is.planned.found.g is.planned.becomes is.planned.kept_all)) read images.members)

@@ -1,0 +1,7 @@
+pub mod KnownPlaces
+pub mod KeysIn
+pub mod CodeRelations
+pub mod SetImages
+pub mod CodedSpots
+pub mod MemberCodes
+pub mod Laws
