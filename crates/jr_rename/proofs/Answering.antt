@@ -1,5 +1,5 @@
 -- What is answered, put together from what the calls below answer.
-use Rattle.std.proofs.Common.{◌≡◌, ℕ, ◌<◌, List, Option, Some, None, refl, sym, subst, ◌∙◌, inl, inr, length, arith}
+use Rattle.std.proofs.Common.{◌≡◌, ℕ, ◌<◌, List, Option, Some, None, refl, sym, ap, subst, ◌∙◌, inl, inr, length, arith}
 use Rattle.std.specs.Prelude.{slice_get, option_map}
 use Rattle.std.proofs.lemmas.List.{append-nil}
 use Rattle.std.proofs.lemmas.Option.{slice_get-map, slice_get_cases}
@@ -47,6 +47,11 @@ there xs i h =
       | inl found ↦ (found.0, found.2)
       | inr past ↦ absurd (omega (arith, h, past.0))
     ]
+
+-- with the pairs of the same rows
+pub pairs_along : (n : Renaming) (rs qs : List Row) (o : Outcome) (edits : List (List Entry)) (respelled : ℕ) → o ≡ planned edits (pairs_of rs n) respelled None → rs ≡ qs
+    → o ≡ planned edits (pairs_of qs n) respelled None
+pairs_along n rs qs o edits respelled e same = e ∙ ap (λ (rows : List Row). planned edits (pairs_of rows n) respelled None) same
 
 module _ (p : Program Span) where
   -- ---- what comes of a renaming

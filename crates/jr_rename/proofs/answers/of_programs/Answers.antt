@@ -3,15 +3,13 @@ use Rattle.std.specs.Prelude.{option_map}
 use Rattle.std.proofs.lemmas.Result.{IfOk-weaker}
 use Rattle.jr_table.specs.Rows.{Row}
 use Rattle.jr_names.specs.ReplyView.{outcome_of}
-use Rattle.jr_names.specs.Replies.{planned}
-use Rattle.jr_images.specs.Renames.{pairs_of}
 use Rattle.jr_new_words.specs.Mappings.{KeyMapping, HaveImages}
 use Rattle.jr_new_words.specs.MappingView.{keys_of, mapping_in}
 use Rattle.jr_new_words.specs.Scopes.{rows_in, renaming_in}
 use Rattle.jr_new_words.specs.ChoiceView.{lost_of}
 use Rattle.jr_new_files.specs.Rewritings.{GivesName}
 use Rattle.jr_rename.specs.Answers.{AnswersKeeping}
-use Rattle.jr_rename.proofs.Answering.{loses, loses_nothing}
+use Rattle.jr_rename.proofs.Answering.{pairs_along, loses, loses_nothing}
 use Rattle.jr_rename.proofs.answers.of_programs.Goals as goal
 
 pub rewrite-requires : goal.rewrite-requires
@@ -41,4 +39,4 @@ returns-in-None g c =
     let p = g.V.View.program c.args.view.now in
     let n = renaming_in c.args.programs.now in
     let made = loses_nothing p n (mapping_in c.tables_of-tables.result) c.tables_of-tables.ensures.keys refl _ _ _ c.in_ok-edits.ensures (ap (option_map (λ l. (l.0, lost_of l.1))) c.in-None.is) in
-    IfOk-weaker c.plan_of.result _ (λ o. AnswersKeeping p n (outcome_of o)) (λ o e. subst (AnswersKeeping p n) (sym (e ∙ (λ i. planned _ (pairs_of (c.requires.rows i) n) _ _))) made) c.plan_of.ensures
+    IfOk-weaker c.plan_of.result _ (λ o. AnswersKeeping p n (outcome_of o)) (λ o e. subst (AnswersKeeping p n) (sym (pairs_along n _ _ _ _ _ e c.requires.rows)) made) c.plan_of.ensures
