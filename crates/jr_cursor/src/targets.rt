@@ -18,7 +18,7 @@ use jr_members::{WrittenMember, members_are_written};
 use jr_program_laws::parts_are_placed;
 use jr_table::Decl;
 use jr_text::Span;
-use std::alloc::{AllocError, Global};
+use std::alloc::AllocError;
 
 /// What the written member of a number has there, if it is one of the file.
 fn has_in_file<V: View<Span>>(
@@ -110,7 +110,6 @@ fn decl_named<V: View<Span>>(
 /// name stands for its class; what is of the prelude or of the package is none. `members` are the
 /// written members of the program.
 pub fn target<V: View<Span>>(
-    alloc: Global,
     view: &V,
     members: &[WrittenMember<'_, Span>],
     file: u32,

@@ -17,6 +17,8 @@ use Rattle.std.specs.Prelude.{
   Option,
   Some,
   None,
+  Bool,
+  true,
   AllPairs,
   Contains,
 }
@@ -32,7 +34,7 @@ use Rattle.jr_bind.specs.Bounds.{IsBound}
 use Rattle.jr_dependences.specs.declared.dependence.Dependence.{Dependence}
 use Rattle.jr_dependences.specs.Depends.{DependsIn}
 use Rattle.jr_dependences.specs.KindNames.{kind_name}
-use Rattle.jr_dependences.specs.Listed.{IsBefore, IsListed, IsOn}
+use Rattle.jr_dependences.specs.Listed.{IsBefore}
 use Rattle.jr_effect.specs.Plain.{Same}
 use Rattle.jr_sites.specs.declared.sites.PlacedSite as raw
 use Rattle.jr_sites.specs.declared.sites.SiteGraph.{SiteGraph}
@@ -56,17 +58,17 @@ use Rattle.jr_dependence_lines.specs.MemberLines.{
   IsFirstLarge,
 }
 
--- So many bytes were there before. All that there are now are counted with them; while these are no
--- more than a number, the texts are kept.
-pub record Tallies (before most : ℕ) (t : Tally) (texts : List (List ℕ)) : Type 0 where
-  pub most_is : t.most ≡ most
+-- So many bytes were there before. All that there are now are counted with them; where it keeps them,
+-- the texts are there.
+pub record Tallies (before : ℕ) (keeps : Bool) (t : Tally) (texts : List (List ℕ)) : Type 0 where
+  pub keeps_is : t.keeps ≡ keeps
   pub counted : t.len ≡ before + bytes_of texts
-  pub kept : t.len ≤ most → t.lines.items ≡ texts
+  pub kept : t.keeps ≡ true → t.lines.items ≡ texts
 
 -- the texts stand behind those that there were
 abbrev pub Puts : (old new : Tally) → List (List ℕ) → Type 0
-Puts old new texts = (before most : ℕ) (there : List (List ℕ)) → Tallies before most old there
-    → Tallies before most new (there ++ texts)
+Puts old new texts = (before : ℕ) (keeps : Bool) (there : List (List ℕ))
+    → Tallies before keeps old there → Tallies before keeps new (there ++ texts)
 
 -- ---- of one line
 
@@ -87,21 +89,6 @@ all_told head places list = map (told head places) list
 abbrev pub place_texts : (start : ℕ) → List raw.PlacedSite → List (List ℕ)
 place_texts start sites = map (λ (s : raw.PlacedSite). decimal (start + s.at)) sites
 
--- how many bytes of a line stand before its second place, but for those of its kind
-abbrev pub front_len : (head : List ℕ) → (places : List (List ℕ)) → (first : ℕ) → ℕ
-front_len head places first = length head + length (slice_index_or places first []) + 3
-
--- there are so many places, each with its number of bytes
-abbrev pub AreTextsOf : Texts → (count : ℕ) → Type 0
-AreTextsOf texts count = (length texts.places.now ≡ count)
-    × (texts.lens.now ≡ map length texts.places.now)
-
--- the lines of the dependences on one site were put
-abbrev pub PutsOn : (head : List ℕ) → (places : List (List ℕ)) → (first : ℕ)
-    → (Holds : Dependence → Type 0) → (old new : Tally) → Type 0
-PutsOn head places first Holds old new = (list : List Dependence)
-    × IsListed (IsOn first) Holds list × Puts old new (all_told head places list)
-
 -- ---- of a member
 
 -- these are all dependences between the sites of a graph, in order
@@ -109,6 +96,11 @@ pub record AreAll (of : SiteGraph) (list : List Dependence) : Type 0 where
   pub ordered : AllPairs IsBefore list
   pub exact : (d : Dependence) → (Contains list d
       ↔ DependsIn Same Same (sites_in of.sites.items) of.graph.edges.items d)
+
+-- the lines of these were put, by the text of a member and those of places
+abbrev pub PutsAll : SiteGraph → Texts → (old new : Tally) → Type 0
+PutsAll of texts old new = (list : List Dependence) × AreAll of list
+    × Puts old new (all_told texts.head.now texts.places.now list)
 
 -- the lines of these were put
 abbrev pub PutsGraph : (head : List ℕ) → (start : ℕ) → SiteGraph → (old new : Tally) → Type 0
@@ -147,6 +139,21 @@ PutsMembers rows items ws old new (Some large) =
 abbrev pub IsTooMany : MemberKey → (count : ℕ) → Shown → Type 0
 IsTooMany key n (shows.TooManySites member count) = (member_key_of member ≡ key) × (count ≡ n)
 IsTooMany key n (shows.Lines texts len) = ⊥
+
+-- What a call answers: all lines of members with the number of all bytes, and the texts where they
+-- are asked for; or the first member with too many sites.
+abbrev pub IsTold : List Row → List Item → (before : ℕ) → (Kept : Type 0)
+    → List (WrittenMember Span) → Shown → Type 0
+IsTold rows items before Kept ws (shows.TooManySites member count) =
+    IsFirstLarge rows items ws (member_key_of member) count
+IsTold rows items before Kept ws (shows.Lines texts len) =
+    (lines : List Line) × HaveLines rows items ws lines
+    × (len ≡ before + bytes_of (texts_of lines)) × (Kept → texts.items ≡ texts_of lines)
+
+-- how many bytes there are with the lines, if there are lines
+abbrev pub HasLen : Shown → (len : ℕ) → Type 0
+HasLen (shows.TooManySites member count) n = ⊥
+HasLen (shows.Lines texts len) n = len ≡ n
 
 -- What a call answers: all lines of members with the number of all bytes, and the texts where that
 -- is no more than a number; or the first member with too many sites.

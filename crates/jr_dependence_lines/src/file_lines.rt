@@ -1,5 +1,6 @@
 //! The lines of a file's members.
-ghost use Rattle.std.specs.Prelude.{◌≡◌, List, Some, map, slice_get, IfOk, OnOk};
+ghost use Rattle.std.specs.Prelude.{◌≡◌, ◌≤◌, ℕ, List, Some, true, map, slice_get};
+ghost use Rattle.std.specs.Prelude.{IfOk, OnOk, IsFalse};
 ghost use Rattle.jr_lex.specs.declared.items.Item.{Item};
 ghost use Rattle.jr_ast.specs.View.{member_of};
 ghost use Rattle.jr_names.specs.DeclTexts.{member_text};
@@ -9,7 +10,7 @@ ghost use Rattle.jr_table.specs.KeyView.{member_key_of};
 ghost use Rattle.jr_members.specs.PartView.{part_of, written_of};
 ghost use Rattle.jr_program.specs.Members.{AreEachBound, EachOf, IsEachBound};
 ghost use Rattle.jr_dependence_lines.specs.MemberLines.{CanShow, CanShowPart, in_file};
-ghost use Rattle.jr_dependence_lines.specs.Tallies.{IsBoundMember, IsShown, IsTooMany};
+ghost use Rattle.jr_dependence_lines.specs.Tallies.{HasLen, IsBoundMember, IsShown, IsTold, IsTooMany};
 ghost use Rattle.jr_dependence_lines.specs.Tallies.{PutsGraph, PutsMember, PutsMembers, PutsPart};
 
 use crate::member_lines::put_graph;
@@ -29,7 +30,7 @@ pub enum Shown {
     /// Nothing, since a member has more than 1,000 sites: the first, and how many it has.
     TooManySites { member: MemberKey, count: u32 },
     /// The lines, and how many bytes they have with those that were there before. Where these are
-    /// more than the limit not all lines are there.
+    /// more than the limit no line is there.
     Lines { texts: Vec<Name>, len: u64 },
 }
 
@@ -140,10 +141,56 @@ fn too_many_sites(large: &Large<'_>) -> Result<Shown, AllocError>
     Ok(Shown::TooManySites { member, count })
 }
 
+// The lines of the file's members behind so many bytes, or only how many bytes there are with them.
+fn tell_lines(
+    alloc: Global,
+    table: &Table,
+    file: u32,
+    written: &[WrittenMember<'_, Span>],
+    bounds: &[MemberBound],
+    before: u64,
+    keeps: bool,
+) -> Result<Shown, AllocError>
+    requires bound { (files : List (List Item))
+        × AreEachBound table.now files (map written_of written.now) bounds.now }
+    requires can { EachOf CanShow (map written_of written.now) }
+    ensures { (files : List (List Item)) (items : List Item)
+        → AreEachBound table.now files (map written_of written.now) bounds.now
+        → slice_get files file ≡ Some items
+        → IfOk result (IsTold table.now items before (keeps ≡ true)
+        (in_file file (map written_of written.now))) }
+{
+    let mut tally = begin(alloc, before, keeps);
+    match put_members(alloc, table, file, written, bounds, &mut tally) {
+        Err(error) => {
+            drop(tally);
+            Err(error)
+        }
+        Ok(Some(large)) => {
+            drop(tally);
+            too_many_sites(&large)
+        }
+        Ok(None) => Ok(Shown::Lines {
+            texts: tally.lines,
+            len: tally.len,
+        }),
+    }
+}
+
+// Whether there are lines, of no more than so many bytes.
+fn fits(shown: &Shown, most: u64) -> bool
+    ensures { IsFalse result → (n : ℕ) → HasLen shown.now n → n ≤ most → ⊥ }
+{
+    match shown {
+        Shown::TooManySites { .. } => false,
+        Shown::Lines { len, .. } => *len <= most,
+    }
+}
+
 /// The lines of the dependences in the file of the number, behind so many bytes, and of no more
 /// than `most` bytes with these. `written` are a program's members, `bounds` what binding knows of
 /// them, one each in the same order. Each member of the file gets its graph made, one after another
-/// in text order; its lines are counted before they are kept.
+/// in text order, and once more where the lines are kept: all are counted before.
 ///
 /// `TooManySites` exactly where a member has more than 1,000 sites, with the first such. Where 64
 /// bits don't count the bytes the answer is want of memory.
@@ -165,19 +212,10 @@ pub fn dependence_lines(
         → IfOk result (IsShown table.now items before most
         (in_file file (map written_of written.now))) }
 {
-    let mut tally = begin(alloc, before, most);
-    match put_members(alloc, table, file, written, bounds, &mut tally) {
-        Err(error) => {
-            drop(tally);
-            Err(error)
-        }
-        Ok(Some(large)) => {
-            drop(tally);
-            too_many_sites(&large)
-        }
-        Ok(None) => Ok(Shown::Lines {
-            texts: tally.lines,
-            len: tally.len,
-        }),
+    let counted = tell_lines(alloc, table, file, written, bounds, before, false)?;
+    if fits(&counted, most) {
+        drop(counted);
+        return tell_lines(alloc, table, file, written, bounds, before, true);
     }
+    Ok(counted)
 }

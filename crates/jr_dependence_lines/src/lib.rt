@@ -4,9 +4,9 @@
 //!
 //! `specs/Lines`: a line; `specs/WayLines`: the lines of the way through a member;
 //! `specs/MemberLines`: those of members, by what they are bound to. `tallies`: lines are counted,
-//! and kept only while their bytes are within a limit, so that a billion of them take no memory.
-//! `member_lines`: those of one member, a first site after another; `file_lines`:
-//! [`dependence_lines`] makes the graph of one member after another and keeps none. `laws`: members
+//! or kept too. `member_lines`: those of one member; `file_lines`: [`dependence_lines`] makes the
+//! graph of one member after another and keeps none. It counts all lines before it keeps any, so
+//! that a billion of them take no memory. `laws`: members
 //! have one list of lines, or one first that is too large.
 #![tactic(auto)]
 

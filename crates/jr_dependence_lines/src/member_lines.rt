@@ -1,29 +1,23 @@
 //! The lines of one member, by its graph.
-ghost use Rattle.std.specs.Prelude.{◌≡◌, ◌<◌, ◌+◌, ◌^◌, ◌∷◌, [], List, All, length, map, decimal};
+ghost use Rattle.std.specs.Prelude.{◌≡◌, ◌<◌, ◌+◌, ◌∷◌, [], List, All, false, length, map, decimal};
 ghost use Rattle.std.specs.Prelude.{IfOk, IfSome, OnOk, string_bytes};
-ghost use Rattle.jr_flow.specs.Edges.{EdgeOf};
-ghost use Rattle.jr_flow.specs.Pairs.{Tells};
-ghost use Rattle.jr_flow.specs.Paths.{Path};
 ghost use Rattle.jr_dependences.specs.declared.dependence.Dependence as pure;
-ghost use Rattle.jr_dependences.specs.Depends.{DependsIn};
-ghost use Rattle.jr_dependences.specs.Numbers.{SameNumber};
-ghost use Rattle.jr_dependence_lines.specs.Tallies.{AreAll, Puts, PutsGraph, PutsOn, all_told};
-ghost use Rattle.jr_dependence_lines.specs.Tallies.{AreTextsOf, place_texts, told};
+ghost use Rattle.jr_lines.specs.Lines.{bytes_of};
+ghost use Rattle.jr_dependence_lines.specs.Tallies.{AreAll, Puts, PutsAll, PutsGraph, all_told};
+ghost use Rattle.jr_dependence_lines.specs.Tallies.{place_texts, told};
 
 use crate::tallies::{Tally, Words, count, put};
 use jr_ast::Name;
-use jr_dependences::{Dependence, NumberedSite, dependences_on, kind_name, numbered, weight_on};
-use jr_effect::bare;
-use jr_flow::{Graph, Reach, reachable};
+use jr_dependences::{Dependence, kind_name, weight_of};
+use jr_effect::{bare, dependences};
 use jr_sites::{PlacedSite, SiteGraph};
 use std::alloc::{AllocError, Global};
 
-/// The text of a member, the places of its sites as texts, and the bytes of each of these.
+/// The text of a member, and the places of its sites as texts.
 #[derive(Clone, Copy, Drop)]
 pub(crate) struct Texts<'a> {
     pub head: &'a str,
     pub places: &'a [Name],
-    pub lens: &'a [u64],
 }
 
 fn place_string(alloc: Global, start: u32, site: &PlacedSite) -> Result<String, AllocError>
@@ -102,86 +96,74 @@ fn put_lines(
     Ok(())
 }
 
-// How many bytes a line has without the text of its kind and of its second place.
-fn front_len(head: &str, place: &str) -> Option<u64>
-    ensures { IfSome result (λ n. n ≡ length head.now + length place.now + 3) }
+// How many bytes each line has without the texts of its kind and its places.
+fn front_len(head: &str) -> Option<u64>
+    ensures { IfSome result (λ n. n ≡ length head.now + 3) }
 {
-    let len = (head.len() as u64).checked_add(place.len() as u64)?;
-    len.checked_add(3)
+    (head.len() as u64).checked_add(3)
 }
 
-// Counts the lines of the dependences on one site, and keeps none.
-fn count_on(
-    alloc: Global,
-    graph: &Graph,
-    reach: &Reach,
-    row: &[NumberedSite],
-    texts: &Texts<'_>,
-    first: u32,
-    tally: &mut Tally,
-) -> Result<(), AllocError>
-    requires few { length row.now < 2 ^ 32 }
-    requires first { first < length row.now }
-    requires reach { Tells (Path (EdgeOf graph.now.edges.items)) reach.now }
-    requires texts { AreTextsOf texts.now (length row.now) }
-    requires past { tally.old.most < tally.old.len }
-    ensures { OnOk result (PutsOn texts.now.head.now texts.now.places.now first
-        (DependsIn SameNumber SameNumber row.now graph.now.edges.items) tally.old tally.new) }
+// What all lines of a graph weigh.
+fn bytes_of_lines(alloc: Global, of: &SiteGraph, texts: &Texts<'_>) -> Result<u64, AllocError>
+    requires { length texts.now.places.now ≡ length of.now.sites.items }
+    ensures { IfOk result (λ n. (list : List pure.Dependence) × AreAll of.now list
+        × (n ≡ bytes_of (all_told texts.now.head.now texts.now.places.now list))) }
 {
-    let place = texts.places[first as usize].as_str();
-    let Some(each) = front_len(texts.head, place) else {
+    let Some(each) = front_len(texts.head) else {
         return Err(AllocError);
     };
-    let bytes = weight_on(alloc, graph, reach, row, first, each, texts.lens)?;
-    count(tally, bytes)
+    let lens = lens_of(alloc, texts.places)?;
+    let sites = bare(alloc, of.graph.size, &of.sites)?;
+    weight_of(alloc, &of.graph, &sites, each, lens.as_slice())
 }
 
-// Puts the lines of the dependences on one site.
-fn put_on(
-    alloc: Global,
-    graph: &Graph,
-    reach: &Reach,
-    row: &[NumberedSite],
-    texts: &Texts<'_>,
-    first: u32,
-    tally: &mut Tally,
-) -> Result<(), AllocError>
-    requires few { length row.now < 2 ^ 32 }
-    requires first { first < length row.now }
-    requires reach { Tells (Path (EdgeOf graph.now.edges.items)) reach.now }
-    requires texts { AreTextsOf texts.now (length row.now) }
-    ensures { OnOk result (PutsOn texts.now.head.now texts.now.places.now first
-        (DependsIn SameNumber SameNumber row.now graph.now.edges.items) tally.old tally.new) }
-{
-    if tally.len > tally.most {
-        return count_on(alloc, graph, reach, row, texts, first, tally);
-    }
-    let list = dependences_on(alloc, graph, reach, row, first)?;
-    put_lines(alloc, texts, &list, tally)
-}
-
-/// Puts the lines of the dependences between the sites of a graph, in order: by the first site, the
-/// second and the kind.
-pub(crate) fn put_dependences(
+// Counts the lines of the dependences between the sites of a graph.
+fn count_dependences(
     alloc: Global,
     of: &SiteGraph,
     texts: &Texts<'_>,
     tally: &mut Tally,
 ) -> Result<(), AllocError>
-    requires { AreTextsOf texts.now (length of.now.sites.items) }
-    ensures { OnOk result ((list : List pure.Dependence) × AreAll of.now list
-        × Puts tally.old tally.new (all_told texts.now.head.now texts.now.places.now list)) }
+    requires places { length texts.now.places.now ≡ length of.now.sites.items }
+    requires counts { tally.old.keeps ≡ false }
+    ensures { OnOk result (PutsAll of.now texts.now tally.old tally.new) }
 {
-    let sites = bare(alloc, of.graph.size, &of.sites)?;
-    let row = numbered(alloc, &sites)?;
-    let reach = reachable(alloc, &of.graph)?;
-    for first in 0..row.len() {
-        put_on(alloc, &of.graph, &reach, &row, texts, first as u32, tally)?;
-    }
-    Ok(())
+    let bytes = bytes_of_lines(alloc, of, texts)?;
+    count(tally, bytes)
 }
 
-/// The same, of a member that begins at a byte and is told by a text.
+// Puts these lines, in order: by the first site, the second and the kind.
+fn put_dependences(
+    alloc: Global,
+    of: &SiteGraph,
+    texts: &Texts<'_>,
+    tally: &mut Tally,
+) -> Result<(), AllocError>
+    requires { length texts.now.places.now ≡ length of.now.sites.items }
+    ensures { OnOk result (PutsAll of.now texts.now tally.old tally.new) }
+{
+    let list = dependences(alloc, of)?;
+    put_lines(alloc, texts, &list, tally)
+}
+
+// Puts them, or counts them alone.
+fn tell_dependences(
+    alloc: Global,
+    of: &SiteGraph,
+    texts: &Texts<'_>,
+    tally: &mut Tally,
+) -> Result<(), AllocError>
+    requires { length texts.now.places.now ≡ length of.now.sites.items }
+    ensures { OnOk result (PutsAll of.now texts.now tally.old tally.new) }
+{
+    if tally.keeps {
+        put_dependences(alloc, of, texts, tally)
+    } else {
+        count_dependences(alloc, of, texts, tally)
+    }
+}
+
+/// The lines of a graph of a member that begins at a byte and is told by a text.
 pub(crate) fn put_graph(
     alloc: Global,
     head: &str,
@@ -193,11 +175,6 @@ pub(crate) fn put_graph(
 {
     let names = place_names(alloc, start, &of.sites)?;
     let places = names.as_slice();
-    let lens = lens_of(alloc, places)?;
-    let texts = Texts {
-        head,
-        places,
-        lens: lens.as_slice(),
-    };
-    put_dependences(alloc, of, &texts, tally)
+    let texts = Texts { head, places };
+    tell_dependences(alloc, of, &texts, tally)
 }

@@ -1,5 +1,5 @@
-//! Lines are counted before they are kept.
-ghost use Rattle.std.specs.Prelude.{◌≡◌, ◌<◌, ◌∷◌, ◌++◌, [], ◌+◌, ℕ, List, length};
+//! Lines that are counted, or counted and kept.
+ghost use Rattle.std.specs.Prelude.{◌≡◌, ◌∷◌, ◌++◌, [], ◌+◌, ℕ, List, false, length};
 ghost use Rattle.jr_lines.specs.Lines.{bytes_of};
 ghost use Rattle.std.specs.Prelude.{IfOk, IfSome, OnOk, string_bytes};
 ghost use Rattle.jr_dependence_lines.specs.Tallies.{Puts, Tallies, text_of};
@@ -7,13 +7,12 @@ ghost use Rattle.jr_dependence_lines.specs.Tallies.{Puts, Tallies, text_of};
 use jr_ast::Name;
 use std::alloc::{AllocError, Global};
 
-/// Lines, and how many bytes there are with all that were counted. While these are no more than
-/// `most`, all lines are kept.
+/// How many bytes there are with all lines that were counted; and the lines, if it keeps them.
 #[derive(Drop)]
 pub(crate) struct Tally {
     pub lines: Vec<Name>,
     pub len: u64,
-    pub most: u64,
+    pub keeps: bool,
 }
 
 /// The words of a line: its member, the kind, and the places of the two sites.
@@ -26,13 +25,13 @@ pub(crate) struct Words<'a> {
 }
 
 /// No lines, with so many bytes before them.
-pub(crate) fn begin(alloc: Global, before: u64, most: u64) -> Tally
-    ensures { Tallies before most result [] }
+pub(crate) fn begin(alloc: Global, before: u64, keeps: bool) -> Tally
+    ensures { Tallies before keeps result [] }
 {
     Tally {
         lines: Vec::new(alloc),
         len: before,
-        most,
+        keeps,
     }
 }
 
@@ -73,25 +72,22 @@ fn keep(alloc: Global, lines: &mut Vec<Name>, words: &Words<'_>) -> Result<(), A
     Ok(())
 }
 
-/// Counts a line, and keeps it while there are few bytes. Where 64 bits don't count them the answer
-/// is want of memory.
+/// Counts a line, and keeps it. Where 64 bits don't count the bytes the answer is want of memory.
 pub(crate) fn put(alloc: Global, tally: &mut Tally, words: &Words<'_>) -> Result<(), AllocError>
     ensures { OnOk result (Puts tally.old tally.new (text_of words.now ∷ [])) }
 {
     let Some(len) = with_line(tally.len, words) else {
         return Err(AllocError);
     };
-    if len <= tally.most {
-        keep(alloc, &mut tally.lines, words)?;
-    }
+    keep(alloc, &mut tally.lines, words)?;
     tally.len = len;
     Ok(())
 }
 
-/// Counts lines that have so many bytes together, where there are too many already. Where 64 bits
-/// don't count them the answer is want of memory.
+/// Counts lines that have so many bytes together, and keeps none. Where 64 bits don't count them
+/// the answer is want of memory.
 pub(crate) fn count(tally: &mut Tally, bytes: u64) -> Result<(), AllocError>
-    requires { tally.old.most < tally.old.len }
+    requires { tally.old.keeps ≡ false }
     ensures { OnOk result ((texts : List (List ℕ)) → bytes ≡ bytes_of texts
         → Puts tally.old tally.new texts) }
 {

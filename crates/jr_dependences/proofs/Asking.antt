@@ -8,7 +8,7 @@ use Rattle.jr_sync.specs.declared.sites.DepKind.{DepKind}
 use Rattle.jr_sync.specs.declared.sites.DepKind.TheVariants.{Order, Field, Sync, Flow, Anti, Output}
 use Rattle.jr_dependences.specs.declared.dependence.Dependence.{Dependence}
 use Rattle.jr_dependences.proofs.Leading.{same_item}
-use Rattle.jr_dependences.specs.Listed.{rank, IsBefore, IsBetween, IsOf, Adds}
+use Rattle.jr_dependences.specs.Listed.{rank, IsBefore, IsUpTo, IsBetween, IsOf, Adds}
 use Rattle.jr_dependences.proofs.Adding.{adds_none, adds_same, adds_then}
 
 -- those of the kinds below a rank
@@ -66,9 +66,6 @@ pub below_all : (first second : ℕ) (x : Dependence) → (IsBelow first second 
 below_all first second x = (λ p. (p.0, p.1), λ p. (p.0, p.1, rank_within x.kind))
 
 -- those on one site, up to a second
-abbrev pub IsUpTo : (first second : ℕ) → Dependence → Type 0
-IsUpTo first second d = (d.first ≡ first) × (d.second < second)
-
 pub up_to_before : (first second : ℕ) (x y : Dependence) → IsUpTo first second x → IsBetween first second y → IsBefore x y
 up_to_before first second x y p q =
     let low : x.second < second = p.1 in

@@ -4,6 +4,7 @@
 -- `Pointing`: sites in a row of references. `Sorting`: which there can't be between two sites.
 -- `Telling`: what is listed of two sites, and what it weighs. `Mapped`: sites that are seen in
 -- another way. `Alike`: rows of sites that are related alike. `Numbering`: sites by numbers are.
+-- `SumLaws`: what a site weighs with those before each other one; `TogetherLaws`: and all together.
 pub mod Adding
 pub mod Asking
 pub mod Leading
@@ -14,3 +15,5 @@ pub mod Stopping
 pub mod Telling
 pub mod Alike
 pub mod Numbering
+pub mod SumLaws
+pub mod TogetherLaws

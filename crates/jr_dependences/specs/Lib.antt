@@ -5,3 +5,4 @@ pub mod KindNames
 pub mod Numbers
 pub mod Kinds
 pub mod Weights
+pub mod Summed

@@ -17,9 +17,13 @@ abbrev pub IsBefore : Dependence → Dependence → Type 0
 IsBefore d e = (d.first < e.first) ⊎ ((d.first ≡ e.first)
     × ((d.second < e.second) ⊎ ((d.second ≡ e.second) × (rank d.kind < rank e.kind))))
 
--- which dependences are in question: those on one site, those between two, those of one kind
+-- which dependences are in question: those on one site, those of sites below a second, those between
+-- two, those of one kind
 abbrev pub IsOn : (first : ℕ) → Dependence → Type 0
 IsOn first d = d.first ≡ first
+
+abbrev pub IsUpTo : (first second : ℕ) → Dependence → Type 0
+IsUpTo first second d = (d.first ≡ first) × (d.second < second)
 
 abbrev pub IsBetween : (first second : ℕ) → Dependence → Type 0
 IsBetween first second d = (d.first ≡ first) × (d.second ≡ second)

@@ -4,17 +4,18 @@ ghost use Rattle.std.specs.Prelude.{Contains, AllPairs, length, map};
 ghost use Rattle.jr_flow.specs.Edges.{EdgeOf};
 ghost use Rattle.jr_flow.specs.Paths.{Path};
 ghost use Rattle.jr_flow.specs.Pairs.{Tells};
+ghost use Rattle.jr_flow.specs.Searched.{AreRowsOf};
 ghost use Rattle.jr_dependences.specs.Depends.{DependsIn};
 ghost use Rattle.jr_dependences.specs.Kinds.{told, told_one};
 ghost use Rattle.jr_dependences.specs.Known.{KnowsPaths};
-ghost use Rattle.jr_dependences.specs.Listed.{IsBefore, IsListed, IsOn, Adds};
+ghost use Rattle.jr_dependences.specs.Listed.{IsBefore, IsOn, Adds};
 ghost use Rattle.jr_dependences.specs.Numbers.{SameNumber};
 
 use crate::Dependence;
 use crate::numbers::{NumberedSite, numbered};
 use crate::pairs::{Kinds, kinds_between};
 use crate::stops::flow_of;
-use jr_flow::{Graph, Reach, Reached, reachable};
+use jr_flow::{EdgeRows, Graph, Reach, Reached, reachable, rows_of_edges};
 use jr_sync::{DepKind, Site};
 use std::alloc::{AllocError, Global};
 
@@ -80,7 +81,7 @@ fn push_seconds(
 /// Puts the dependences on one site.
 fn push_row(
     alloc: Global,
-    graph: &Graph,
+    rows: &EdgeRows,
     reach: &Reach,
     sites: &[NumberedSite],
     first: u32,
@@ -88,33 +89,12 @@ fn push_row(
 ) -> Result<(), AllocError>
     requires few { length sites.now < 2 ^ 32 }
     requires first { first < length sites.now }
-    requires reach { Tells (Path (EdgeOf graph.now.edges.items)) reach.now }
-    ensures { OnOk result (Adds (IsOn first)
-        (DependsIn SameNumber SameNumber sites.now graph.now.edges.items)
-        list.old.items list.new.items) }
+    ensures { (edges : List (ℕ × ℕ)) → Tells (Path (EdgeOf edges)) reach.now
+        → AreRowsOf edges rows.now → OnOk result (Adds (IsOn first)
+        (DependsIn SameNumber SameNumber sites.now edges) list.old.items list.new.items) }
 {
-    let flow = flow_of(alloc, graph, sites, first)?;
+    let flow = flow_of(alloc, rows, sites, first)?;
     push_seconds(reach, &flow, sites, first, list)
-}
-
-/// The dependences on one site, each once, in order: by the second site and the kind. The sites are
-/// the graph's nodes; `reach` has between which of them there are paths.
-pub fn dependences_on(
-    alloc: Global,
-    graph: &Graph,
-    reach: &Reach,
-    sites: &[NumberedSite],
-    first: u32,
-) -> Result<Vec<Dependence>, AllocError>
-    requires few { length sites.now < 2 ^ 32 }
-    requires first { first < length sites.now }
-    requires reach { Tells (Path (EdgeOf graph.now.edges.items)) reach.now }
-    ensures { IfOk result (λ list. IsListed (IsOn first)
-        (DependsIn SameNumber SameNumber sites.now graph.now.edges.items) list.items) }
-{
-    let mut list = Vec::new(alloc);
-    push_row(alloc, graph, reach, sites, first, &mut list)?;
-    Ok(list)
 }
 
 /// The dependences on all sites, one site after another.
@@ -129,9 +109,10 @@ fn dependences_between(
         ↔ DependsIn SameNumber SameNumber sites.now graph.now.edges.items d)) }
 {
     let reach = reachable(alloc, graph)?;
+    let rows = rows_of_edges(alloc, graph)?;
     let mut list = Vec::new(alloc);
     for first in 0..sites.len() {
-        push_row(alloc, graph, &reach, sites, first as u32, &mut list)?;
+        push_row(alloc, &rows, &reach, sites, first as u32, &mut list)?;
     }
     Ok(list)
 }

@@ -8,7 +8,7 @@ use jr_sync::Site;
 use std::alloc::{AllocError, Global};
 
 /// A site that names fields and locals by numbers.
-pub type NumberedSite = Site<u32, u32>;
+pub(crate) type NumberedSite = Site<u32, u32>;
 
 /// Whether the site accesses the field.
 fn has_field<K: Eq, L: Eq>(site: &Site<K, L>, field: &K) -> bool
@@ -90,7 +90,7 @@ fn numbered_site<K: Eq, L: Eq>(sites: &[&Site<K, L>], site: &Site<K, L>) -> Numb
 
 /// The sites of a row, in their order, with numbers for fields and locals: they depend on one
 /// another as those do.
-pub fn numbered<K: Eq, L: Eq>(
+pub(crate) fn numbered<K: Eq, L: Eq>(
     alloc: Global,
     sites: &[&Site<K, L>],
 ) -> Result<Vec<NumberedSite>, AllocError>

@@ -54,7 +54,7 @@ fn in_order() -> Kinds
 
 /// Whether the site is of a local.
 #[inline(always)]
-fn is_local(site: &NumberedSite) -> bool
+pub(crate) fn is_local(site: &NumberedSite) -> bool
     ensures { result ≡ is_local site.now }
 {
     match site {
@@ -109,7 +109,7 @@ fn kinds_of_local(
 /// How a site depends on another before it: of locals there are none. Cheap tests come first: most
 /// sites stand beside one that is no access.
 #[inline(always)]
-fn kinds_of_other(before: &NumberedSite, behind: &NumberedSite) -> Kinds
+pub(crate) fn kinds_of_other(before: &NumberedSite, behind: &NumberedSite) -> Kinds
     requires { is_local before.now ≡ false }
     ensures { (kind : DepKind) → (IsTrue (has result kind)
         ↔ Related SameNumber SameNumber kind before.now behind.now) }

@@ -1,11 +1,12 @@
 //! Where a local is written again, and what a write reaches before that.
-ghost use Rattle.std.specs.Prelude.{ℕ, ◌↔◌, ◌<◌, ◌^◌, IfOk, IsTrue, Contains, length};
+ghost use Rattle.std.specs.Prelude.{ℕ, List, ◌↔◌, ◌<◌, ◌^◌, IfOk, IsTrue, Contains, length};
+ghost use Rattle.jr_flow.specs.Searched.{AreRowsOf};
 ghost use Rattle.jr_dependences.specs.Depends.{WritesAgain};
 ghost use Rattle.jr_dependences.specs.Known.{IsReadIn, TellsFlow};
 ghost use Rattle.jr_dependences.specs.Numbers.{SameNumber};
 
 use crate::numbers::NumberedSite;
-use jr_flow::{Graph, Reached, reached_from};
+use jr_flow::{EdgeRows, Reached, reached_in};
 use jr_sync::{DepKind, related};
 use std::alloc::{AllocError, Global};
 
@@ -41,22 +42,23 @@ fn stops_of(
 }
 
 /// What a site reaches with no write of its local between, if it is a write of a local that is
-/// read.
+/// read; by the rows of the graph's edges.
 pub(crate) fn flow_of(
     alloc: Global,
-    graph: &Graph,
+    rows: &EdgeRows,
     sites: &[NumberedSite],
     first: u32,
 ) -> Result<Option<Reached>, AllocError>
     requires few { length sites.now < 2 ^ 32 }
     requires first { first < length sites.now }
-    ensures { IfOk result (TellsFlow SameNumber SameNumber sites.now graph.now.edges.items first) }
+    ensures { (edges : List (ℕ × ℕ)) → AreRowsOf edges rows.now
+        → IfOk result (TellsFlow SameNumber SameNumber sites.now edges first) }
 {
     let site = &sites[first as usize];
     if !is_read_in(sites, site) {
         return Ok(None);
     }
     let stops = stops_of(alloc, sites, site)?;
-    let reached = reached_from(alloc, graph, first, &stops)?;
+    let reached = reached_in(alloc, rows, first, &stops)?;
     Ok(Some(reached))
 }

@@ -10,23 +10,24 @@ use Rattle.jr_ast.specs.View.{expr_of, exprs_of, target_of}
 use Rattle.jr_ast.proofs.Sizes.{exp_size, exps_size, target_size}
 use Rattle.jr_table.specs.Binding.{Role, value, left}
 use Rattle.jr_bind_expr.specs.Fits.{FitsType, FitsExps}
+use Rattle.jr_rewrite.specs.Spots.{Asks}
 use Rattle.jr_new_bodies.specs.declared.here.Here as raw
 use Rattle.jr_new_bodies.specs.Effects.{Effect}
 use Rattle.jr_new_bodies.specs.Known.{rows_of, context_of, ExpReady, RowReady, TargetReady, TypesCreation, first_of, NameIsBound, DottedIsBound, SuperFieldIsBound, CallIsBound, SuperCallIsBound, CreationIsBound, TypeIsBound}
-use Rattle.jr_new_bodies.specs.Walks.{ExpGathers, TypeGathers, PairGathers, CastGathers, SimpleGathers, SuperGathers, FieldGathers, CallGathers, SuperCallGathers, CreateGathers}
+use Rattle.jr_new_bodies.specs.Walks.{ExpGathers, PartGathers, TypeGathers, PairGathers, CastGathers, SimpleGathers, SuperGathers, FieldGathers, CallGathers, SuperCallGathers, CreateGathers}
 use Rattle.jr_new_bodies.proofs.Bound.{name_bound, dotted_bound, super_field_bound, call_bound, super_call_bound, creation_bound, created_type_bound, cast_bound, literal_bound}
 use Rattle.jr_new_bodies.proofs.Readying.{in_field, in_name, in_super_field, in_literal, in_call, in_super_call, in_create, creation_types, in_paren, in_unary, in_bump, in_cast, in_binary, in_assign, in_compound}
 use Rattle.jr_new_bodies.proofs.Giving.{name_gives, field_gives, super_field_gives, literal_gives, paren_gives, unary_gives, bump_gives, cast_gives, binary_gives, assign_gives, compound_gives, call_gives, super_call_gives, create_gives}
 
 -- measures
 
-pub falls_one : (whole size shown n t : ℕ) → shown ≡ size → whole ≡ suc size → 5 * whole ≡ t → n < 5 → 5 * shown + n < t
+pub falls_one : (whole size shown n t : ℕ) → shown ≡ size → whole ≡ suc size → 6 * whole ≡ t → n < 6 → 6 * shown + n < t
 falls_one whole size shown n t e w h l = omega (arith, e, w, h, l)
 
-pub falls_two : (whole a b x y n t : ℕ) → x ≡ a → y ≡ b → whole ≡ suc (a + b) → 5 * whole ≡ t → n < 5 → 5 * (x + y) + n < t
+pub falls_two : (whole a b x y n t : ℕ) → x ≡ a → y ≡ b → whole ≡ suc (a + b) → 6 * whole ≡ t → n < 6 → 6 * (x + y) + n < t
 falls_two whole a b x y n t e f w h l = omega (arith, e, f, w, h, l)
 
-pub falls_target : {A : Type 0} (to : Option (Box (Expr A) Global)) (b : Box (Expr A) Global) (x : Expr A) (t : ℕ) → to ≡ Some b → x ≡ b.value → 5 * target_size (target_of to) + 3 ≡ t → 5 * exp_size (expr_of x) + 2 < t
+pub falls_target : {A : Type 0} (to : Option (Box (Expr A) Global)) (b : Box (Expr A) Global) (x : Expr A) (t : ℕ) → to ≡ Some b → x ≡ b.value → 6 * target_size (target_of to) + 4 ≡ t → 6 * exp_size (expr_of x) + 3 < t
 unfolding exp_size exps_size target_size
 falls_target to b x t is same h =
     let e : target_size (target_of to) ≡ exp_size (expr_of b.value) = ap (λ (o : Option (Box (Expr _) Global)). target_size (target_of o)) is in
@@ -102,9 +103,9 @@ module _ {A : Type 0} (tells : A → ℕ → Span) (F : A → ℕ → Type 0) (h
   pub one_needs : (e : tree.Exp A) (x y : Expr A) → x ≡ y → (Ready e → Part value 0 (B m base) (expr_of y)) → Ready e → Part value 0 at (expr_of x)
   one_needs e x y same part ready = subst (λ z. Part value 0 at (expr_of z)) (sym same) (there (λ n. Part value 0 n (expr_of y)) (part ready))
 
-  pub one_returns : (e : tree.Exp A) (x y : Expr A) (old new : Effect) → x ≡ y → (ExpGathers tells h value (B m base) (expr_of y) old new → ExpGathers tells h role base e old new)
-      → ExpGathers tells h value at (expr_of x) old new → ExpGathers tells h role base e old new
-  one_returns e x y old new same to g = to (here (λ n. ExpGathers tells h value n (expr_of y) old new) (subst (λ z. ExpGathers tells h value at (expr_of z) old new) same g))
+  pub one_returns : (k : Asks) (e : tree.Exp A) (x y : Expr A) (old new : Effect) → x ≡ y → (PartGathers tells h k value (B m base) (expr_of y) old new → ExpGathers tells h role base e old new)
+      → PartGathers tells h k value at (expr_of x) old new → ExpGathers tells h role base e old new
+  one_returns k e x y old new same to g = to (here (λ n. PartGathers tells h k value n (expr_of y) old new) (subst (λ z. PartGathers tells h k value at (expr_of z) old new) same g))
 
   pub two_need : (e : tree.Exp A) (x y u v : Expr A) → x ≡ u → y ≡ v → (Ready e → Part value 0 (B m base) (expr_of u) × Part value 1 (B m base) (expr_of v)) → Ready e
       → Part value 0 at (expr_of x) × Part value 1 at (expr_of y)
@@ -114,10 +115,10 @@ module _ {A : Type 0} (tells : A → ℕ → Span) (F : A → ℕ → Type 0) (h
         subst (λ z. Part value 1 at (expr_of z)) (sym other) (there (λ n. Part value 1 n (expr_of v)) p.1),
       )
 
-  pub two_return : (e : tree.Exp A) (x y u v : Expr A) (old new : Effect) → x ≡ u → y ≡ v → (PairGathers tells h (B m base) (expr_of u) (expr_of v) old new → ExpGathers tells h role base e old new)
-      → PairGathers tells h at (expr_of x) (expr_of y) old new → ExpGathers tells h role base e old new
-  two_return e x y u v old new one other to g =
-      to (here (λ n. PairGathers tells h n (expr_of u) (expr_of v) old new) (subst (λ z. PairGathers tells h at (expr_of u) (expr_of z) old new) other (subst (λ z. PairGathers tells h at (expr_of z) (expr_of y) old new) one g)))
+  pub two_return : (j k : Asks) (e : tree.Exp A) (x y u v : Expr A) (old new : Effect) → x ≡ u → y ≡ v → (PairGathers tells h j k (B m base) (expr_of u) (expr_of v) old new → ExpGathers tells h role base e old new)
+      → PairGathers tells h j k at (expr_of x) (expr_of y) old new → ExpGathers tells h role base e old new
+  two_return j k e x y u v old new one other to g =
+      to (here (λ n. PairGathers tells h j k n (expr_of u) (expr_of v) old new) (subst (λ z. PairGathers tells h j k at (expr_of u) (expr_of z) old new) other (subst (λ z. PairGathers tells h j k at (expr_of z) (expr_of y) old new) one g)))
 
   -- ---- calls
 

@@ -12,8 +12,9 @@ use Rattle.jr_table.specs.Context.{Context, local_of, in_own, after, locals_in, 
 use Rattle.jr_table.specs.Binding.{Role, value, statement as whole}
 use Rattle.jr_table.specs.Somewhere.{InStmt, InElse, InStmts}
 use Rattle.jr_table.specs.TypesAt.{TypeBelow, TypeInStmt, TypeInElse, TypeInStmts}
-use Rattle.jr_rewrite.specs.Rewritten.{joined}
-use Rattle.jr_rewrite.specs.Rewrites.{Choosing, RewritesExp, RewritesMaybe, RewritesStmt, RewritesStmts, TransformsStmt, TransformsElse, TransformsStmts}
+use Rattle.jr_rewrite.specs.Rewritten.{Rewritten, plain, joined}
+use Rattle.jr_rewrite.specs.Spots.{level, a_statement, Spotted}
+use Rattle.jr_rewrite.specs.Rewrites.{Choosing, TransformsExp, TransformsPart, TransformsMaybe, TransformsStmt, TransformsElse, TransformsStmts, TransformsList}
 use Rattle.jr_expr_types.specs.Slots.{find_type}
 use Rattle.jr_bind.specs.Bounds.{Bound}
 use Rattle.jr_bind_expr.specs.Fits.{FitsType, FitsStmt, FitsElse, FitsStmts}
@@ -23,7 +24,10 @@ use Rattle.jr_new_words.specs.Spelled.{spelling}
 use Rattle.jr_new_bodies.specs.declared.here.Here as raw
 use Rattle.jr_new_bodies.specs.Effects.{Effect, both, effect_of, Gathers}
 use Rattle.jr_new_bodies.specs.Known.{rows_of, mapping_of, context_of, IsKnown, ExpReady, TypeIsBound}
-use Rattle.jr_new_bodies.specs.Walks.{choosing, ExpGathers}
+use Rattle.jr_new_bodies.specs.declared.spots.Spots.{Spots}
+use Rattle.jr_new_bodies.specs.Spotting.{Unseen, spots_of}
+use Rattle.jr_new_bodies.specs.SpotView.{spotting_of}
+use Rattle.jr_new_bodies.specs.Walks.{choosing, spotted, ExpGathers, PartGathers}
 use Rattle.jr_new_bodies.specs.Bodies.{MaybeGathers, StmtGathers, ElseGathers, StmtsGather}
 use Rattle.jr_new_bodies.specs.Ready.{SoundElse, RefersElse, TypesElse, ExpReadyIn, StmtsReadyIn, MaybeReady, StmtReady, ElseReady, StmtsReady, BranchReady, TurnsReady, SyncReady}
 use Rattle.jr_new_bodies.specs.Moves.{Goes, cut, own_key, StmtPasses, InnerPasses, BodyPasses}
@@ -31,37 +35,42 @@ use Rattle.jr_new_bodies.specs.Locals.{LocalGathers}
 use Rattle.jr_table.specs.declared.rules.Rule.TheVariants as rule
 use Rattle.jr_new_bodies.proofs.Bound.{type_bound}
 use Rattle.jr_new_bodies.proofs.Typed.{part}
-use Rattle.jr_new_bodies.proofs.Joining.{gathers_none, gathers_within, gathers_joined, both_assoc}
+use Rattle.jr_new_bodies.proofs.Spotted.{by_node, list_by_node}
+use Rattle.jr_new_bodies.proofs.Joining.{gathers_none, gathers_as, gathers_within, gathers_joined, both_assoc}
 
 -- what holds at another place of the same member, where the same is known
 pub moved_back : (P : List Row → Bound → ℕ → Context → Type 0) (h i : raw.Here) (c : Context) → Goes h i c → P (rows_of h) h.bound.now h.from c → P (rows_of i) i.bound.now i.from (context_of i)
 moved_back P h i c goes x =
     subst (λ d. P (rows_of i) i.bound.now i.from d) (sym goes.context) (subst (λ n. P (rows_of i) i.bound.now n c) (sym goes.from_is) (subst (λ b. P (rows_of i) b h.from c) (sym goes.bound) (subst (λ r. P r h.bound.now h.from c) (sym goes.rows) x)))
 
--- what is said of the rows and the mapping alone
-pub moved : (P : List Row → Mapping → Context → Type 0) (h i : raw.Here) (c : Context) → Goes h i c → P (rows_of i) (mapping_of i) (context_of i) → P (rows_of h) (mapping_of h) c
-moved P h i c goes x = subst (λ r. P r (mapping_of h) c) goes.rows (subst (λ g. P (rows_of i) g c) goes.mapping (subst (λ d. P (rows_of i) (mapping_of i) d) goes.context x))
+-- what is said of the rows, the mapping and the spots alone
+pub moved : (P : List Row → Mapping → Spots → Context → Type 0) (h i : raw.Here) (c : Context) → Goes h i c → P (rows_of i) (mapping_of i) i.spots (context_of i) → P (rows_of h) (mapping_of h) h.spots c
+moved P h i c goes x =
+    subst (λ r. P r (mapping_of h) h.spots c) goes.rows (subst (λ g. P (rows_of i) g h.spots c) goes.mapping (subst (λ z. P (rows_of i) (mapping_of i) z c) goes.spots (subst (λ d. P (rows_of i) (mapping_of i) i.spots d) goes.context x)))
 
 pub then_goes : (h i j : raw.Here) (c d : Context) → Goes h i c → Goes i j d → Goes h j d
-then_goes h i j c d a b = record { known = b.known; context = b.context; rows = b.rows ∙ a.rows; mapping = b.mapping ∙ a.mapping; bound = b.bound ∙ a.bound; from_is = b.from_is ∙ a.from_is }
+then_goes h i j c d a b = record { known = b.known; context = b.context; rows = b.rows ∙ a.rows; mapping = b.mapping ∙ a.mapping; bound = b.bound ∙ a.bound; from_is = b.from_is ∙ a.from_is; spots = b.spots ∙ a.spots }
 
 pub goes_as : (h i : raw.Here) (c d : Context) → Goes h i c → c ≡ d → Goes h i d
-goes_as h i c d a e = record { known = a.known; context = a.context ∙ e; rows = a.rows; mapping = a.mapping; bound = a.bound; from_is = a.from_is }
+goes_as h i c d a e = record { known = a.known; context = a.context ∙ e; rows = a.rows; mapping = a.mapping; bound = a.bound; from_is = a.from_is; spots = a.spots }
 
 pub stays_here : (h : raw.Here) → IsKnown h → Goes h h (context_of h)
-stays_here h known = record { known = known; context = refl; rows = refl; mapping = refl; bound = refl; from_is = refl }
+stays_here h known = record { known = known; context = refl; rows = refl; mapping = refl; bound = refl; from_is = refl; spots = refl }
 
 module _ {A : Type 0} (tells : A → ℕ → Span) (h : raw.Here) (n base : ℕ) (m : A) where
   abbrev pub at : ℕ
   at = (tells m base).from
 
-  abbrev pub C : (Context → ℕ) → Choosing A
-  C s = choosing tells h s
+  abbrev pub C : Unseen A → Choosing A
+  C s = choosing tells h s.super_at
+
+  abbrev pub S : Unseen A → Spotted A
+  S s = spotted tells h s
 
   pub local_gives : (f : Bool) (t : tree.TypeName A) (w : tree.Word A) (e : tree.Exp A) (old new : Effect) → LocalGathers tells h n at f t w e old new → StmtGathers tells h n base (statement.local m f t w e) old new
   unfolding TransformsStmt TransformsElse TransformsStmts
   local_gives f t w e old new (mid, (first, type, word), init) = λ s.
-      let p = type s in let v = word s in let q = init s in (
+      let p = type s.super_at in let v = word s.super_at in let q = init s in (
         joined (λ (u : tree.TypeName A × tree.Word A) x. statement.local m f u.0 u.1 x) (joined (λ u z. (u, z)) p.0 v.0) q.0,
         (p.0, v.0, q.0, p.1, v.1, q.1, refl),
         q.2 ∙ ap (λ d. both d (effect_of q.0)) (v.2 ∙ ap (λ d. both d (effect_of v.0)) p.2 ∙ both_assoc old (effect_of p.0) (effect_of v.0))
@@ -70,9 +79,11 @@ module _ {A : Type 0} (tells : A → ℕ → Span) (h : raw.Here) (n base : ℕ)
 
   pub eval_gives : (e : tree.Exp A) (old new : Effect) → ExpGathers tells h whole at e old new → StmtGathers tells h n base (statement.eval m e) old new
   unfolding TransformsStmt TransformsElse TransformsStmts
-  eval_gives e old new part = λ s. gathers_within (λ x. statement.eval m x) (RewritesExp tells (C s) (context_of h) whole at e) old new (part s)
+  eval_gives e old new part = λ s.
+      gathers_within (λ x. statement.eval m x) (TransformsPart tells (C s) (S s) a_statement (context_of h) whole at e) old new
+      (gathers_as (TransformsExp tells (C s) (S s) (context_of h) whole at e) (TransformsPart tells (C s) (S s) a_statement (context_of h) whole at e) old new (λ o x. by_node tells s (spotting_of h.spots) a_statement (context_of h) whole at e o (TransformsExp tells (C s) (S s) (context_of h) whole at e o) tt x) (part s))
 
-  pub branch_gives : (e : tree.Exp A) (x : statement.Stmt A) (other : statement.Else A) (old one two new : Effect) → ExpGathers tells h value at e old one → StmtGathers tells h n at x one two
+  pub branch_gives : (e : tree.Exp A) (x : statement.Stmt A) (other : statement.Else A) (old one two new : Effect) → PartGathers tells h (level 0) value at e old one → StmtGathers tells h n at x one two
       → ElseGathers tells h (n + locals_in x) at other two new → StmtGathers tells h n base (statement.branch m e x other) old new
   unfolding TransformsStmt TransformsElse TransformsStmts
   branch_gives e x other old one two new test body last = λ s.
@@ -83,21 +94,21 @@ module _ {A : Type 0} (tells : A → ℕ → Span) (h : raw.Here) (n base : ℕ)
             ∙ both_assoc old (both (effect_of p.0) (effect_of q.0)) (effect_of z.0),
       )
 
-  pub loop_gives : (e : tree.Exp A) (x : statement.Stmt A) (old one new : Effect) → ExpGathers tells h value at e old one → StmtGathers tells h n at x one new → StmtGathers tells h n base (statement.loop m e x) old new
+  pub loop_gives : (e : tree.Exp A) (x : statement.Stmt A) (old one new : Effect) → PartGathers tells h (level 0) value at e old one → StmtGathers tells h n at x one new → StmtGathers tells h n base (statement.loop m e x) old new
   unfolding TransformsStmt TransformsElse TransformsStmts
-  loop_gives e x old one new test body = λ s. gathers_joined (λ u v. statement.loop m u v) (RewritesExp tells (C s) (context_of h) value at e) (RewritesStmt tells (C s) n (context_of h) at x) old one new (test s) (body s)
+  loop_gives e x old one new test body = λ s. gathers_joined (λ u v. statement.loop m u v) (TransformsPart tells (C s) (S s) (level 0) (context_of h) value at e) (TransformsStmt tells (C s) (S s) n (context_of h) at x) old one new (test s) (body s)
 
   pub return_gives : (e : Option (tree.Exp A)) (old new : Effect) → MaybeGathers tells h at e old new → StmtGathers tells h n base (statement.return m e) old new
   unfolding TransformsStmt TransformsElse TransformsStmts
-  return_gives e old new part = λ s. gathers_within (λ x. statement.return m x) (RewritesMaybe tells (C s) (context_of h) at e) old new (part s)
+  return_gives e old new part = λ s. gathers_within (λ x. statement.return m x) (TransformsMaybe tells (C s) (S s) (context_of h) at e) old new (part s)
 
   pub block_gives : (body : statement.Stmts A) (old new : Effect) → StmtsGather tells h n at body old new → StmtGathers tells h n base (statement.block m body) old new
   unfolding TransformsStmt TransformsElse TransformsStmts
-  block_gives body old new part = λ s. gathers_within (λ x. statement.block m x) (RewritesStmts tells (C s) n (context_of h) at body) old new (part s)
+  block_gives body old new part = λ s. gathers_within (λ x. statement.block m x) (TransformsList tells (C s) (S s) n (context_of h) at body) old new (part s)
 
-  pub sync_gives : (e : tree.Exp A) (body : statement.Stmts A) (old one new : Effect) → ExpGathers tells h value at e old one → StmtsGather tells h n at body one new → StmtGathers tells h n base (statement.sync m e body) old new
+  pub sync_gives : (e : tree.Exp A) (body : statement.Stmts A) (old one new : Effect) → PartGathers tells h (level 0) value at e old one → StmtsGather tells h n at body one new → StmtGathers tells h n base (statement.sync m e body) old new
   unfolding TransformsStmt TransformsElse TransformsStmts
-  sync_gives e body old one new lock part = λ s. gathers_joined (λ u v. statement.sync m u v) (RewritesExp tells (C s) (context_of h) value at e) (RewritesStmts tells (C s) n (context_of h) at body) old one new (lock s) (part s)
+  sync_gives e body old one new lock part = λ s. gathers_joined (λ u v. statement.sync m u v) (TransformsPart tells (C s) (S s) (level 0) (context_of h) value at e) (TransformsList tells (C s) (S s) n (context_of h) at body) old one new (lock s) (part s)
 
   pub empty_gives : (e : Effect) → StmtGathers tells h n base (statement.empty m) e e
   unfolding TransformsStmt TransformsElse TransformsStmts
@@ -110,7 +121,7 @@ module _ {A : Type 0} (tells : A → ℕ → Span) (h : raw.Here) (n at : ℕ) w
 
   pub else_gives : (x : statement.Stmt A) (old new : Effect) → StmtGathers tells h n at x old new → ElseGathers tells h n at (statement.otherwise x) old new
   unfolding TransformsStmt TransformsElse TransformsStmts
-  else_gives x old new part = λ s. gathers_within (λ y. statement.otherwise y) (RewritesStmt tells (choosing tells h s) n (context_of h) at x) old new (part s)
+  else_gives x old new part = λ s. gathers_within (λ y. statement.otherwise y) (TransformsStmt tells (choosing tells h s.super_at) (spotted tells h s) n (context_of h) at x) old new (part s)
 
 -- ---- what the parts rest on
 
@@ -190,11 +201,12 @@ module _ {A : Type 0} (tells : A → ℕ → Span) (Fits : A → ℕ → Type 0)
     pub mapping : mapping_of i ≡ mapping_of h
     pub bound : i.bound.now ≡ h.bound.now
     pub from_is : i.from ≡ h.from
+    pub spots : i.spots ≡ h.spots
     pub inside : Inside (context_of h) (context_of i)
     pub count : next + locals_in_row rest ≡ number + locals_in_row all
     pub ready : StmtsReady tells Fits i next path step at rest
-    pub gives : (s : Context → ℕ) (new : Effect) → Gathers (RewritesStmts tells (choosing tells h s) next (context_of i) at rest) now new
-        → Gathers (RewritesStmts tells (choosing tells h s) number (context_of h) at all) start new
+    pub gives : (s : Unseen A) (new : Effect) → Gathers (TransformsList tells (choosing tells h s.super_at) (spotted tells h s) next (context_of i) at rest) now new
+        → Gathers (TransformsList tells (choosing tells h s.super_at) (spotted tells h s) number (context_of h) at all) start new
 
   pub going_start : (first : ℕ) → IsKnown h → StmtsReady tells Fits h number path first at all → Going number h first start all
   going_start first known ready = record {
@@ -203,6 +215,7 @@ module _ {A : Type 0} (tells : A → ℕ → Span) (Fits : A → ℕ → Type 0)
     mapping = refl;
     bound = refl;
     from_is = refl;
+    spots = refl;
     inside = inside_same (context_of h);
     count = refl;
     ready = ready;
@@ -220,6 +233,15 @@ module _ {A : Type 0} (tells : A → ℕ → Span) (Fits : A → ℕ → Type 0)
   unfolding FitsStmt FitsElse FitsStmts InStmt InElse InStmts TypeInStmt TypeInElse TypeInStmts
   rest_ready next i step x rest r = (r.0.1, λ b q z. r.1 b q (inr z), λ b d z. r.2 b d (inr z), λ k j is q t. r.3 k (suc j) (omega (arith, is)) q t)
 
+  abbrev First : Unseen A → ℕ → raw.Here → statement.Stmt A → Rewritten (statement.Stmt A) → Type 0
+  First s next i x = TransformsStmt tells (choosing tells h s.super_at) (spotted tells h s) next (context_of i) at x
+
+  abbrev Rest : Unseen A → ℕ → Context → statement.Stmts A → Rewritten (statement.Stmts A) → Type 0
+  Rest s next c xs = TransformsList tells (choosing tells h s.super_at) (spotted tells h s) next c at xs
+
+  abbrev Whole : Unseen A → ℕ → raw.Here → statement.Stmt A → statement.Stmts A → Rewritten (statement.Stmts A) → Type 0
+  Whole s next i x rest = TransformsStmts tells (choosing tells h s.super_at) (spotted tells h s) next (context_of i) at (statement.more x rest)
+
   pub going_step : (next after_it : ℕ) (i j : raw.Here) (step : ℕ) (now then_it : Effect) (x : statement.Stmt A) (rest : statement.Stmts A)
       → Going next i step now (statement.more x rest) → StmtPasses tells next i at x after_it j now then_it → Going after_it j (step + 1) then_it rest
   unfolding locals_in locals_in_else locals_in_row TransformsStmt TransformsElse TransformsStmts
@@ -232,16 +254,19 @@ module _ {A : Type 0} (tells : A → ℕ → Span) (Fits : A → ℕ → Type 0)
         mapping = p.goes.mapping ∙ g.mapping;
         bound = p.goes.bound ∙ g.bound;
         from_is = p.goes.from_is ∙ g.from_is;
+        spots = p.goes.spots ∙ g.spots;
         inside = subst (λ (d : Context). Inside (context_of h) d) (sym p.goes.context) (inside_after next (context_of h) (context_of i) x g.inside);
         count = turn next (locals_in x) (locals_in_row rest) after_it (number + locals_in_row all) n count;
         ready = subst (λ k. StmtsReady tells Fits j k path (step + 1) at rest) (sym n)
             (moved_back (λ rs b f d. StmtsReadyIn tells Fits rs b f (next + locals_in x) d path (step + 1) at rest) i j (after next (context_of i) x) p.goes (rest_ready next i step x rest g.ready));
         gives = λ s new y.
-            g.gives s new (gathers_joined (λ z zs. statement.more z zs) (RewritesStmt tells (choosing tells h s) next (context_of i) at x) (RewritesStmts tells (choosing tells h s) (next + locals_in x) (after next (context_of i) x) at rest) now then_it new
-            (subst (λ rs. Gathers (RewritesStmt tells (spelling (λ m b. (tells m b).from) rs (mapping_of h) s) next (context_of i) at x) now then_it) g.rows
-            (subst (λ k. Gathers (RewritesStmt tells (spelling (λ m b. (tells m b).from) (rows_of i) k s) next (context_of i) at x) now then_it) g.mapping (p.gives s)))
-            (subst (λ k. Gathers (RewritesStmts tells (choosing tells h s) k (after next (context_of i) x) at rest) then_it new) n
-            (subst (λ d. Gathers (RewritesStmts tells (choosing tells h s) after_it d at rest) then_it new) p.goes.context y)));
+            g.gives s new (gathers_as (Whole s next i x rest) (Rest s next (context_of i) (statement.more x rest)) now new (λ o z. list_by_node tells s (spotting_of h.spots) next (context_of i) at (statement.more x rest) o (Whole s next i x rest o) z)
+            (gathers_joined (λ z zs. statement.more z zs) (First s next i x) (Rest s (next + locals_in x) (after next (context_of i) x) rest) now then_it new
+            (subst (λ rs. Gathers (TransformsStmt tells (spelling (λ m b. (tells m b).from) rs (mapping_of h) s.super_at) (spotted tells h s) next (context_of i) at x) now then_it) g.rows
+            (subst (λ k. Gathers (TransformsStmt tells (spelling (λ m b. (tells m b).from) (rows_of i) k s.super_at) (spotted tells h s) next (context_of i) at x) now then_it) g.mapping
+            (subst (λ z. Gathers (TransformsStmt tells (choosing tells i s.super_at) (spots_of tells s (spotting_of z)) next (context_of i) at x) now then_it) g.spots (p.gives s))))
+            (subst (λ k. Gathers (Rest s k (after next (context_of i) x) rest) then_it new) n
+            (subst (λ d. Gathers (Rest s after_it d rest) then_it new) p.goes.context y))));
       }
     where
       turn : (a b r a' t : ℕ) → a' ≡ a + b → a + (b + r) ≡ t → a' + r ≡ t
@@ -267,8 +292,10 @@ module _ {A : Type 0} (tells : A → ℕ → Span) (Fits : A → ℕ → Type 0)
           mapping = cuts.mapping ∙ g.mapping;
           bound = cuts.bound ∙ g.bound;
           from_is = cuts.from_is ∙ g.from_is;
+          spots = cuts.spots ∙ g.spots;
         };
-        gives = λ s. g.gives s now (gathers_none statement.end now);
+        gives = λ s. g.gives s now
+            (gathers_as (λ (o : Rewritten (statement.Stmts A)). o ≡ plain statement.end) (Rest s next (context_of i) statement.end) now now (λ o z. list_by_node tells s (spotting_of h.spots) next (context_of i) at statement.end o (o ≡ plain statement.end) z) (gathers_none statement.end now));
       }
 
 -- of Rust lists
@@ -311,6 +338,7 @@ module _ {A : Type 0} (tells : A → ℕ → Span) (number : ℕ) (h : raw.Here)
           mapping = cuts.mapping ∙ p.goes.mapping;
           bound = cuts.bound ∙ p.goes.bound;
           from_is = cuts.from_is ∙ p.goes.from_is;
+          spots = cuts.spots ∙ p.goes.spots;
         };
         gives = p.gives;
       }

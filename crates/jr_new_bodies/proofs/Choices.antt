@@ -16,7 +16,7 @@ use Rattle.jr_table.specs.Binding.{Role, value, left, statement, variable, type,
 use Rattle.jr_table.specs.Meanings.{find_left, find_left_of, own_superclass, field_found, call_found, target_found, ctor_found, created_class, types_of}
 use Rattle.jr_table.proofs.Typing.{left_iff, left_of_iff, own_super_iff}
 use Rattle.jr_rewrite.specs.Respellings.{Choice}
-use Rattle.jr_new_words.specs.Mappings.{Mapping, type_to, types_to}
+use Rattle.jr_new_words.specs.Mappings.{Mapping, type_now, types_now}
 use Rattle.jr_images.specs.Words.{InFront}
 use Rattle.jr_new_words.specs.Spelled.{WordsStand}
 use Rattle.jr_new_words.specs.Spelled as spells
@@ -88,7 +88,7 @@ module _ (rows : List Row) (are : AreRows rows) (keys : KeysAreFound rows) (g : 
         by left bound f h = bound variable f (inr (on.0, refl, h))
         by statement bound f h = bound variable f (refl, h)
 
-    pub field_chosen : (role : Role) (k : ClassKey) (at : ℕ) (h : Choice) → IsValueOf rows c e k → FieldIsChosen rows g c at k (type_to g (class k)) name (Some h) → DottedSpells begins rows g c role at e name h
+    pub field_chosen : (role : Role) (k : ClassKey) (at : ℕ) (h : Choice) → IsValueOf rows c e k → FieldIsChosen rows g c at k (type_now g c e (class k)) name (Some h) → DottedSpells begins rows g c role at e name h
     field_chosen role k at h on (f, finds, chosen) = inl (f, inl (k, on_value k on, finds), inr (on.0, (k, on.1, chosen)))
 
     pub class_field_chosen : (role : Role) (k : ClassKey) (w : InFront) (at : ℕ) (h : Choice) → IsClassName rows c e k → WordsStand rows g c e k w
@@ -177,7 +177,7 @@ module _ (rows : List Row) (are : AreRows rows) (keys : KeysAreFound rows) (g : 
         let m = found_call rows (scope_of c) name ts o.0 o.1 in
         none m.0 (subst (λ x. FindsMethodNamed rows (scope_of c) name ts (one x)) m.1 o.1)
 
-    pub simple_chosen : (ts : List Ty) (at : ℕ) (h : Choice) → HaveTypes rows c args ts → SimpleCallIsChosen rows g c at name ts (types_to g ts) (Some h) → spells.SimpleCallSpells begins rows g c at name args h
+    pub simple_chosen : (ts : List Ty) (at : ℕ) (h : Choice) → HaveTypes rows c args ts → SimpleCallIsChosen rows g c at name ts (types_now g c args ts) (Some h) → spells.SimpleCallSpells begins rows g c at name args h
     unfolding TargetFinds
     simple_chosen ts at h have (q, finds, chosen) = (q, ts, inl (ts, have, finds), have, chosen)
 
@@ -191,12 +191,12 @@ module _ (rows : List Row) (are : AreRows rows) (keys : KeysAreFound rows) (g : 
     pub static_call_there : (e : tree.Exp A) (w : InFront) (k : ClassKey) (ts us : List Ty) (at : ℕ) → IsOn rows c e k → HaveTypes rows c args ts → CallIsBound begins rows c (tree.on e) name args → StaticCallIsChosen rows g c at w k name ts us None → ⊥
     static_call_there e w k ts us at on have bound none = call_there e k void ts us at on have bound none
 
-    pub call_chosen : (e : tree.Exp A) (k : ClassKey) (ts : List Ty) (at : ℕ) (h : Choice) → IsValueOf rows c e k → HaveTypes rows c args ts → CallIsChosen rows g c at k (type_to g (class k)) name ts (types_to g ts) (Some h) → spells.CallSpells begins rows g c at e name args h
+    pub call_chosen : (e : tree.Exp A) (k : ClassKey) (ts : List Ty) (at : ℕ) (h : Choice) → IsValueOf rows c e k → HaveTypes rows c args ts → CallIsChosen rows g c at k (type_now g c e (class k)) name ts (types_now g c args ts) (Some h) → spells.CallSpells begins rows g c at e name args h
     unfolding TargetFinds
     call_chosen e k ts at h on have (q, finds, chosen) = (q, ts, inl (k, inr on, inl (ts, have, finds)), have, inr (on.0, (k, on.1, chosen)))
 
     pub static_call_chosen : (e : tree.Exp A) (k : ClassKey) (w : InFront) (ts : List Ty) (at : ℕ) (h : Choice) → IsClassName rows c e k → WordsStand rows g c e k w → HaveTypes rows c args ts
-        → StaticCallIsChosen rows g c at w k name ts (types_to g ts) (Some h) → spells.CallSpells begins rows g c at e name args h
+        → StaticCallIsChosen rows g c at w k name ts (types_now g c args ts) (Some h) → spells.CallSpells begins rows g c at e name args h
     unfolding TargetFinds
     static_call_chosen e k w ts at h on words have (q, finds, chosen) = (q, ts, inl (k, inl on, inl (ts, have, finds)), have, inl (k, on, (w, words, chosen)))
 
@@ -241,7 +241,7 @@ module _ (rows : List Row) (are : AreRows rows) (keys : KeysAreFound rows) (g : 
         let m = found_method rows (scope_of c) k.0 name ts o.0 o.1 in
         none m.0 (inl (k.0, k.2, subst (λ x. FindsMethodOf rows (scope_of c) k.0 name ts (one x)) m.1 o.1))
 
-    pub super_call_chosen : (ts : List Ty) (at : ℕ) (h : Choice) → HaveTypes rows c args ts → SuperCallIsChosen rows g c at name ts (types_to g ts) (Some h) → spells.SuperCallSpells begins rows g c at name args h
+    pub super_call_chosen : (ts : List Ty) (at : ℕ) (h : Choice) → HaveTypes rows c args ts → SuperCallIsChosen rows g c at name ts (types_now g c args ts) (Some h) → spells.SuperCallSpells begins rows g c at name args h
     super_call_chosen ts at h have (q, finds, chosen) = (q, ts, by finds, have, chosen)
       where
         by : FindsIn (IsSuperclass rows (scope_of c).class) (λ k x. FindsMethodOf rows (scope_of c) k name ts x) (one (method_decl q)) → SuperCallFinds rows c name args (one (method_decl q))
@@ -278,7 +278,7 @@ module _ (rows : List Row) (are : AreRows rows) (keys : KeysAreFound rows) (g : 
         let m = found_ctor rows (scope_of c) k ts o.0 o.1 in
         none m.0 (subst (λ x. FindsCtorOf rows (scope_of c) k ts (one x)) m.1 o.1)
 
-    pub creation_chosen : (t : tree.TypeName A) (k : ClassKey) (ts : List Ty) (at : ℕ) (h : Choice) → WritesType rows (scope_of c) t (class k) → HaveTypes rows c args ts → CreationIsChosen rows g c at k ts (types_to g ts) (Some h) → Creates begins rows g c at t args h
+    pub creation_chosen : (t : tree.TypeName A) (k : ClassKey) (ts : List Ty) (at : ℕ) (h : Choice) → WritesType rows (scope_of c) t (class k) → HaveTypes rows c args ts → CreationIsChosen rows g c at k ts (types_now g c args ts) (Some h) → Creates begins rows g c at t args h
     creation_chosen t k ts at h is have (q, finds, chosen) = (k, q, ts, is, inl (k, is, inl (ts, have, finds)), have, chosen)
 
     ctor_is : (k : Option ClassKey) → ((j : ClassKey) → (k ≡ Some j) → IsSuperclass rows (scope_of c).class j) → ((j : ClassKey) → IsSuperclass rows (scope_of c).class j → k ≡ Some j)
@@ -299,7 +299,7 @@ module _ (rows : List Row) (are : AreRows rows) (keys : KeysAreFound rows) (g : 
         let m = found_ctor rows (scope_of c) k.0 ts o.0 o.1 in
         none m.0 (inl (k.0, k.1, subst (λ x. FindsCtorOf rows (scope_of c) k.0 ts (one x)) m.1 o.1))
 
-    pub super_ctor_chosen : (ts : List Ty) (at : ℕ) (h : Choice) → HaveTypes rows c args ts → SuperCtorIsChosen rows g c at ts (types_to g ts) (Some h) → spells.SuperCtorSpells begins rows g at c args h
+    pub super_ctor_chosen : (ts : List Ty) (at : ℕ) (h : Choice) → HaveTypes rows c args ts → SuperCtorIsChosen rows g c at ts (types_now g c args ts) (Some h) → spells.SuperCtorSpells begins rows g at c args h
     super_ctor_chosen ts at h have (q, finds, chosen) = (q, ts, by finds, have, chosen)
       where
         by : FindsIn (IsSuperclass rows (scope_of c).class) (λ k x. FindsCtorOf rows (scope_of c) k ts x) (one (constructor_decl q)) → SuperCtorFinds rows c args (one (constructor_decl q))

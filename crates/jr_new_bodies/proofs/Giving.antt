@@ -1,5 +1,5 @@
 -- What is gathered of the parts of an expression is what its rewriting gives.
-use Rattle.std.proofs.Common.{◌≡◌, ℕ, ◌+◌, List, [], ◌∷◌, ◌++◌, Bool, true, false, Option, Some, None, refl, sym, ap, subst, ◌∙◌, inl, inr, arith}
+use Rattle.std.proofs.Common.{◌≡◌, ℕ, ◌+◌, List, [], ◌∷◌, ◌++◌, Bool, true, false, Option, Some, None, suc, refl, sym, ap, subst, ◌∙◌, inl, inr, arith}
 use Rattle.std.specs.Prelude.{◌⊎◌, if◌then◌else◌}
 use Rattle.std.proofs.lemmas.List.{append_assoc, append-nil}
 use Rattle.jr_text.specs.declared.spans.Span.{Span}
@@ -12,7 +12,9 @@ use Rattle.jr_rewrite.specs.Respellings.{Front, same, alone, by_this, by_super, 
 use Rattle.jr_rewrite.specs.Rewritten as rewritten
 use Rattle.jr_rewrite.specs.Rewritten.{Rewritten, plain, within, joined, count_of, losses_of, word_out, name_out, field_out, super_field_out, Called, simple_call_out, dotted_call_out, simple_type_out, qualified_type_out, dotted_changes, super_changes, qualified_changes, word_changes, drops_operand, drops_qualifier}
 use Rattle.jr_rewrite.specs.Puts.{before_changes, behind_changes, super_parts, class_changes, drops_class}
-use Rattle.jr_rewrite.specs.Rewrites.{RewritesType, RewritesExp, RewritesRow, with_losses, TransformsExp, TransformsTarget, TransformsRow}
+use Rattle.jr_grammar.specs.Shape.{unsigned_level, sign_level, rank_of}
+use Rattle.jr_rewrite.specs.Spots.{Asks, level, a_target}
+use Rattle.jr_rewrite.specs.Rewrites.{RewritesType, with_losses, TransformsExp, TransformsTarget, TransformsRow, TransformsPart}
 use Rattle.jr_rewrite.proofs.Putting.{dotted_is_parts, super_is_parts, qualified_is_parts}
 use Rattle.jr_new_words.specs.Mappings.{Mapping}
 use Rattle.jr_new_words.specs.Spelled.{VariableSpells, ClassSpells, spelling}
@@ -22,8 +24,11 @@ use Rattle.jr_new_bodies.specs.Effects.{Effect, no_effect, both, effect_of, Gath
 use Rattle.jr_new_bodies.specs.OutputView as out
 use Rattle.jr_new_bodies.specs.OutputView.{in_front, behind, left_of, put_behind, behind_super, class_left, put_class, qualified}
 use Rattle.jr_new_bodies.specs.Known.{rows_of, mapping_of, context_of, NameSpells}
-use Rattle.jr_new_bodies.specs.Walks.{choosing, ExpGathers, DottedGathers, RowGathers, TypeGathers, PairGathers, CastGathers, SimpleGathers, SuperGathers, FieldGathers, CalledGathers, CallOnGathers, TargetGathers, CallGathers, SuperCalledGathers, SuperCallGathers, CreatedGathers, CreateGathers, NamedGathers}
-use Rattle.jr_new_bodies.proofs.Joining.{none_both, both_none, both_assoc, gathers_none, gathers_within, gathers_joined}
+use Rattle.jr_new_bodies.specs.Spotting.{PartSpot, part_at, part_out, Unseen, PartStays}
+use Rattle.jr_new_bodies.specs.SpotView.{spotting_of}
+use Rattle.jr_new_bodies.specs.Walks.{choosing, spotted, ExpGathers, PartGathers, DottedGathers, RowGathers, TypeGathers, PairGathers, CastGathers, SimpleGathers, SuperGathers, FieldGathers, CalledGathers, CallOnGathers, TargetGathers, CallGathers, SuperCalledGathers, SuperCallGathers, CreatedGathers, CreateGathers, NamedGathers}
+use Rattle.jr_new_bodies.proofs.Spotted.{by_node, by_spot, this_by_node}
+use Rattle.jr_new_bodies.proofs.Joining.{none_both, both_none, both_assoc, gathers_none, gathers_as, gathers_within, gathers_joined}
 
 -- ---- a word behind an operand, whole
 
@@ -119,6 +124,10 @@ module _ {A : Type 0} (tells : A → ℕ → Span) (h : raw.Here) where
   abbrev pub More : {T : Type 0} → Rewritten T → Effect → Effect → Type 0
   More o old new = new ≡ both old (effect_of o)
 
+  -- an operand of which so much is asked
+  abbrev pub Part : Unseen A → Asks → (base : ℕ) → tree.Exp A → Rewritten (tree.Exp A) → Type 0
+  Part s k base e = TransformsPart tells (choosing tells h s.super_at) (spotted tells h s) k (context_of h) value base e
+
   pub number_gives : (role : Role) (base : ℕ) (m : A) (n : ℕ) (e : Effect) → ExpGathers tells h role base (tree.number m n) e e
   unfolding TransformsExp TransformsTarget TransformsRow
   number_gives role base m n e = λ s. gathers_none (tree.number m n) e
@@ -137,7 +146,8 @@ module _ {A : Type 0} (tells : A → ℕ → Span) (h : raw.Here) where
 
   pub this_gives : (role : Role) (base : ℕ) (m : A) (e : Effect) → ExpGathers tells h role base (tree.this m) e e
   unfolding TransformsExp TransformsTarget TransformsRow
-  this_gives role base m e = λ s. gathers_none (tree.this m) e
+  this_gives role base m e = λ s.
+      (plain (tree.this m), this_by_node tells s (spotting_of h.spots) (plain (tree.this m) ≡ plain (tree.this m)) refl, sym (both_none e))
 
   pub name_gives : (role : Role) (base : ℕ) (m : A) (w : tree.Word A) (old new : Effect) → SimpleGathers tells h role (begins m base) w old new → ExpGathers tells h role base (tree.name m w) old new
   unfolding TransformsExp TransformsTarget TransformsRow
@@ -155,35 +165,35 @@ module _ {A : Type 0} (tells : A → ℕ → Span) (h : raw.Here) where
 
   pub literal_gives : (role : Role) (base : ℕ) (m : A) (t : tree.TypeName A) (old new : Effect) → TypeGathers tells h (begins m base) t old new → ExpGathers tells h role base (tree.class_literal m t) old new
   unfolding TransformsExp TransformsTarget TransformsRow
-  literal_gives role base m t old new part = λ s. gathers_within (λ u. tree.class_literal m u) (RewritesType tells (choosing tells h s) (context_of h) (begins m base) t) old new (part s)
+  literal_gives role base m t old new part = λ s. gathers_within (λ u. tree.class_literal m u) (RewritesType tells (choosing tells h s.super_at) (context_of h) (begins m base) t) old new (part s.super_at)
 
-  pub paren_gives : (role : Role) (base : ℕ) (m : A) (e : tree.Exp A) (old new : Effect) → ExpGathers tells h value (begins m base) e old new → ExpGathers tells h role base (tree.paren m e) old new
+  pub paren_gives : (role : Role) (base : ℕ) (m : A) (e : tree.Exp A) (old new : Effect) → PartGathers tells h (level 0) value (begins m base) e old new → ExpGathers tells h role base (tree.paren m e) old new
   unfolding TransformsExp TransformsTarget TransformsRow
-  paren_gives role base m e old new part = λ s. gathers_within (λ x. tree.paren m x) (RewritesExp tells (choosing tells h s) (context_of h) value (begins m base) e) old new (part s)
+  paren_gives role base m e old new part = λ s. gathers_within (λ x. tree.paren m x) (Part s (level 0) (begins m base) e) old new (part s)
 
-  pub unary_gives : (role : Role) (base : ℕ) (m : A) (op : _) (e : tree.Exp A) (old new : Effect) → ExpGathers tells h value (begins m base) e old new → ExpGathers tells h role base (tree.unary m op e) old new
+  pub unary_gives : (role : Role) (base : ℕ) (m : A) (op : _) (e : tree.Exp A) (old new : Effect) → PartGathers tells h (level sign_level) value (begins m base) e old new → ExpGathers tells h role base (tree.unary m op e) old new
   unfolding TransformsExp TransformsTarget TransformsRow
-  unary_gives role base m op e old new part = λ s. gathers_within (λ x. tree.unary m op x) (RewritesExp tells (choosing tells h s) (context_of h) value (begins m base) e) old new (part s)
+  unary_gives role base m op e old new part = λ s. gathers_within (λ x. tree.unary m op x) (Part s (level sign_level) (begins m base) e) old new (part s)
 
-  pub bump_gives : (role : Role) (base : ℕ) (m : A) (op : _) (e : tree.Exp A) (old new : Effect) → ExpGathers tells h value (begins m base) e old new → ExpGathers tells h role base (tree.bump m op e) old new
+  pub bump_gives : (role : Role) (base : ℕ) (m : A) (op : _) (e : tree.Exp A) (old new : Effect) → PartGathers tells h a_target value (begins m base) e old new → ExpGathers tells h role base (tree.bump m op e) old new
   unfolding TransformsExp TransformsTarget TransformsRow
-  bump_gives role base m op e old new part = λ s. gathers_within (λ x. tree.bump m op x) (RewritesExp tells (choosing tells h s) (context_of h) value (begins m base) e) old new (part s)
+  bump_gives role base m op e old new part = λ s. gathers_within (λ x. tree.bump m op x) (Part s (a_target) (begins m base) e) old new (part s)
 
   pub cast_gives : (role : Role) (base : ℕ) (m : A) (t : tree.TypeName A) (e : tree.Exp A) (old new : Effect) → CastGathers tells h (begins m base) t e old new → ExpGathers tells h role base (tree.cast m t e) old new
   unfolding TransformsExp TransformsTarget TransformsRow
-  cast_gives role base m t e old new (mid, first, second) = λ s. gathers_joined (λ u x. tree.cast m u x) (RewritesType tells (choosing tells h s) (context_of h) (begins m base) t) (RewritesExp tells (choosing tells h s) (context_of h) value (begins m base) e) old mid new (first s) (second s)
+  cast_gives role base m t e old new (mid, first, second) = λ s. gathers_joined (λ u x. tree.cast m u x) (RewritesType tells (choosing tells h s.super_at) (context_of h) (begins m base) t) (Part s (level unsigned_level) (begins m base) e) old mid new (first s.super_at) (second s)
 
-  pub binary_gives : (role : Role) (base : ℕ) (m : A) (op : _) (x y : tree.Exp A) (old new : Effect) → PairGathers tells h (begins m base) x y old new → ExpGathers tells h role base (tree.binary m op x y) old new
+  pub binary_gives : (role : Role) (base : ℕ) (m : A) (op : _) (x y : tree.Exp A) (old new : Effect) → PairGathers tells h (level (rank_of op)) (level (suc (rank_of op))) (begins m base) x y old new → ExpGathers tells h role base (tree.binary m op x y) old new
   unfolding TransformsExp TransformsTarget TransformsRow
-  binary_gives role base m op x y old new (mid, first, second) = λ s. gathers_joined (λ u v. tree.binary m op u v) (RewritesExp tells (choosing tells h s) (context_of h) value (begins m base) x) (RewritesExp tells (choosing tells h s) (context_of h) value (begins m base) y) old mid new (first s) (second s)
+  binary_gives role base m op x y old new (mid, first, second) = λ s. gathers_joined (λ u v. tree.binary m op u v) (Part s (level (rank_of op)) (begins m base) x) (Part s (level (suc (rank_of op))) (begins m base) y) old mid new (first s) (second s)
 
-  pub assign_gives : (role : Role) (base : ℕ) (m : A) (x y : tree.Exp A) (old new : Effect) → PairGathers tells h (begins m base) x y old new → ExpGathers tells h role base (tree.assign m x y) old new
+  pub assign_gives : (role : Role) (base : ℕ) (m : A) (x y : tree.Exp A) (old new : Effect) → PairGathers tells h a_target (level 0) (begins m base) x y old new → ExpGathers tells h role base (tree.assign m x y) old new
   unfolding TransformsExp TransformsTarget TransformsRow
-  assign_gives role base m x y old new (mid, first, second) = λ s. gathers_joined (λ u v. tree.assign m u v) (RewritesExp tells (choosing tells h s) (context_of h) value (begins m base) x) (RewritesExp tells (choosing tells h s) (context_of h) value (begins m base) y) old mid new (first s) (second s)
+  assign_gives role base m x y old new (mid, first, second) = λ s. gathers_joined (λ u v. tree.assign m u v) (Part s (a_target) (begins m base) x) (Part s (level 0) (begins m base) y) old mid new (first s) (second s)
 
-  pub compound_gives : (role : Role) (base : ℕ) (m : A) (op : _) (x y : tree.Exp A) (old new : Effect) → PairGathers tells h (begins m base) x y old new → ExpGathers tells h role base (tree.compound m op x y) old new
+  pub compound_gives : (role : Role) (base : ℕ) (m : A) (op : _) (x y : tree.Exp A) (old new : Effect) → PairGathers tells h a_target (level 0) (begins m base) x y old new → ExpGathers tells h role base (tree.compound m op x y) old new
   unfolding TransformsExp TransformsTarget TransformsRow
-  compound_gives role base m op x y old new (mid, first, second) = λ s. gathers_joined (λ u v. tree.compound m op u v) (RewritesExp tells (choosing tells h s) (context_of h) value (begins m base) x) (RewritesExp tells (choosing tells h s) (context_of h) value (begins m base) y) old mid new (first s) (second s)
+  compound_gives role base m op x y old new (mid, first, second) = λ s. gathers_joined (λ u v. tree.compound m op u v) (Part s (a_target) (begins m base) x) (Part s (level 0) (begins m base) y) old mid new (first s) (second s)
 
   pub call_gives : (role : Role) (base : ℕ) (m : A) (to : tree.Target A) (w : tree.Word A) (args : tree.Exps A) (old new : Effect) → CallGathers tells h (begins m base) to w args old new → ExpGathers tells h role base (tree.call m to w args) old new
   unfolding TransformsExp TransformsTarget TransformsRow
@@ -212,13 +222,29 @@ module _ {A : Type 0} (tells : A → ℕ → Span) (h : raw.Here) where
 
   pub create_gives : (role : Role) (base : ℕ) (m : A) (t : tree.TypeName A) (args : tree.Exps A) (old new : Effect) → CreateGathers tells h (begins m base) t args old new → ExpGathers tells h role base (tree.create m t args) old new
   unfolding TransformsExp TransformsTarget TransformsRow
-  create_gives role base m t args old new (mid, (c, first, chosen, is, type), row) = λ s. let p = type s in let q = row s in
+  create_gives role base m t args old new (mid, (c, first, chosen, is, type), row) = λ s. let p = type s.super_at in let q = row s in
       let o = joined (λ u es. tree.create m u es) p.0 q.0 in (
-        with_losses tells (choosing tells h s) c o,
+        with_losses tells (choosing tells h s.super_at) c o,
         (c, p.0, q.0, chosen, p.1, q.1, refl),
         q.2 ∙ (λ i. both (p.2 i) (effect_of q.0)) ∙ (λ i. both (both (is i) (effect_of p.0)) (effect_of q.0))
             ∙ both_assoc (both old (out.lost c)) (effect_of p.0) (effect_of q.0) ∙ both_assoc old (out.lost c) (both (effect_of p.0) (effect_of q.0)),
       )
+
+  -- ---- beside spots
+
+  pub node_gives : (k : Asks) (r : Role) (base : ℕ) (e : tree.Exp A) (old new : Effect) → PartStays tells (spotting_of h.spots) k base e → ExpGathers tells h r base e old new → PartGathers tells h k r base e old new
+  node_gives k r base e old new free x = λ s.
+      gathers_as (TransformsExp tells (choosing tells h s.super_at) (spotted tells h s) (context_of h) r base e)
+      (TransformsPart tells (choosing tells h s.super_at) (spotted tells h s) k (context_of h) r base e) old new
+      (λ o w. by_node tells s (spotting_of h.spots) k (context_of h) r base e o (TransformsExp tells (choosing tells h s.super_at) (spotted tells h s) (context_of h) r base e o) free w) (x s)
+
+  pub spot_gives : (r : Role) (base : ℕ) (e : tree.Exp A) (p : PartSpot) (least : ℕ) (old new : Effect) → part_at (tells (exp_mark e) base) (spotting_of h.spots) ≡ Some p → new ≡ both old (out.in_place p least)
+      → PartGathers tells h (level least) r base e old new
+  spot_gives r base e p least old new at is = λ s. (
+    part_out p least (s.part p.at least),
+    by_spot tells s (spotting_of h.spots) least (context_of h) r base e p (TransformsExp tells (choosing tells h s.super_at) (spotted tells h s) (context_of h) r base e (part_out p least (s.part p.at least))) at,
+    is,
+  )
 
   -- ---- arguments
 
@@ -226,9 +252,9 @@ module _ {A : Type 0} (tells : A → ℕ → Span) (h : raw.Here) where
   unfolding TransformsExp TransformsTarget TransformsRow
   row_ends at e = λ s. gathers_none tree.end e
 
-  pub row_goes : (at : ℕ) (x : tree.Exp A) (xs : tree.Exps A) (old mid new : Effect) → ExpGathers tells h value at x old mid → RowGathers tells h at xs mid new → RowGathers tells h at (tree.more x xs) old new
+  pub row_goes : (at : ℕ) (x : tree.Exp A) (xs : tree.Exps A) (old mid new : Effect) → PartGathers tells h (level 0) value at x old mid → RowGathers tells h at xs mid new → RowGathers tells h at (tree.more x xs) old new
   unfolding TransformsExp TransformsTarget TransformsRow
-  row_goes at x xs old mid new first second = λ s. gathers_joined (λ y ys. tree.more y ys) (RewritesExp tells (choosing tells h s) (context_of h) value at x) (RewritesRow tells (choosing tells h s) (context_of h) at xs) old mid new (first s) (second s)
+  row_goes at x xs old mid new first second = λ s. gathers_joined (λ y ys. tree.more y ys) (Part s (level 0) at x) (TransformsRow tells (choosing tells h s.super_at) (spotted tells h s) (context_of h) at xs) old mid new (first s) (second s)
 
   -- ---- types
 

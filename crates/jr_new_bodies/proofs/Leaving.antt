@@ -6,11 +6,14 @@ use Rattle.jr_ast.specs.StatementTree as statement
 use Rattle.jr_ast.proofs.Sizes.{stmt_size, stmts_size, else_size}
 use Rattle.jr_table.specs.Context.{Context, after, locals_in, locals_in_else, locals_in_row}
 use Rattle.jr_table.specs.Binding.{value}
-use Rattle.jr_rewrite.specs.Rewrites.{RewritesStmt}
+use Rattle.jr_rewrite.specs.Spots.{level}
+use Rattle.jr_rewrite.specs.Rewrites.{TransformsStmt}
 use Rattle.jr_new_words.specs.Spelled.{spelling}
 use Rattle.jr_new_bodies.specs.declared.here.Here as raw
 use Rattle.jr_new_bodies.specs.Known.{context_of, IsKnown}
-use Rattle.jr_new_bodies.specs.Walks.{choosing, ExpGathers}
+use Rattle.jr_new_bodies.specs.Spotting.{spots_of}
+use Rattle.jr_new_bodies.specs.SpotView.{spotting_of}
+use Rattle.jr_new_bodies.specs.Walks.{choosing, spotted, PartGathers}
 use Rattle.jr_new_bodies.specs.Effects.{Effect, Gathers}
 use Rattle.jr_new_bodies.specs.Bodies.{StmtGathers, ElseGathers}
 use Rattle.jr_new_bodies.specs.Ready.{StmtReady, ElseReady}
@@ -71,9 +74,9 @@ module _ {A : Type 0} (tells : A → ℕ → Span) (F : A → ℕ → Type 0) (h
 
 module _ {A : Type 0} (tells : A → ℕ → Span) (F : A → ℕ → Type 0) (h : raw.Here) (n : ℕ) (path : List ℕ) (at : ℕ) (e : tree.Exp A) (x : statement.Stmt A) where
   abbrev pub Branching : statement.Else A → (old new : Effect) → Type 0
-  Branching other old new = (one : Effect) × (two : Effect) × ExpGathers tells h value at e old one × StmtGathers tells h n at x one two × ElseGathers tells h (n + locals_in x) at other two new
+  Branching other old new = (one : Effect) × (two : Effect) × PartGathers tells h (level 0) value at e old one × StmtGathers tells h n at x one two × ElseGathers tells h (n + locals_in x) at other two new
 
-  pub yes_left : (old one : Effect) → IsKnown h → ExpGathers tells h value at e old one → StmtReady tells F h n (path ++ 1 ∷ []) at x
+  pub yes_left : (old one : Effect) → IsKnown h → PartGathers tells h (level 0) value at e old one → StmtReady tells F h n (path ++ 1 ∷ []) at x
       → IsLastOf x x statement.no_else × Leaves tells F h (n + locals_in x + locals_in_else {A = A} statement.no_else) (Branching statement.no_else old) x n (path ++ 1 ∷ []) at h one
   unfolding locals_in locals_in_else locals_in_row
   yes_left old one known test ready = (
@@ -89,7 +92,7 @@ module _ {A : Type 0} (tells : A → ℕ → Span) (F : A → ℕ → Type 0) (h
       plus_none : (a : ℕ) → a ≡ a + 0
       plus_none a = omega arith
 
-  pub no_left : (z : statement.Stmt A) (k : ℕ) (i : raw.Here) (old one two : Effect) → ExpGathers tells h value at e old one → ElseReady tells F h (n + locals_in x) (path ++ 2 ∷ []) at (statement.otherwise z) → InnerPasses tells n h at x k i one two
+  pub no_left : (z : statement.Stmt A) (k : ℕ) (i : raw.Here) (old one two : Effect) → PartGathers tells h (level 0) value at e old one → ElseReady tells F h (n + locals_in x) (path ++ 2 ∷ []) at (statement.otherwise z) → InnerPasses tells n h at x k i one two
       → IsLastOf z x (statement.otherwise z) × Leaves tells F h (n + locals_in x + locals_in_else (statement.otherwise z)) (Branching (statement.otherwise z) old) z k (path ++ 2 ∷ []) at i two
   unfolding locals_in locals_in_else locals_in_row
   no_left z k i old one two test ready p = (
@@ -104,8 +107,8 @@ module _ {A : Type 0} (tells : A → ℕ → Span) (F : A → ℕ → Type 0) (h
         test,
         p.gives,
         else_gives tells h (n + locals_in x) at z two new
-            (λ s. subst (λ j. Gathers (RewritesStmt tells (choosing tells h s) j (context_of h) at z) two new) p.number
-            (moved (λ rs d c. Gathers (RewritesStmt tells (spelling (λ m b. (tells m b).from) rs d s) k c at z) two new) h i (context_of h) p.goes (g s))),
+            (λ s. subst (λ j. Gathers (TransformsStmt tells (choosing tells h s.super_at) (spotted tells h s) j (context_of h) at z) two new) p.number
+            (moved (λ rs d v c. Gathers (TransformsStmt tells (spelling (λ m b. (tells m b).from) rs d s.super_at) (spots_of tells s (spotting_of v)) k c at z) two new) h i (context_of h) p.goes (g s))),
       );
     },
   )

@@ -12,9 +12,10 @@ use Rattle.jr_ast.proofs.Sizes.{stmt_size, stmts_size, else_size}
 use Rattle.jr_table.specs.Context.{in_own, local_of, locals_in, locals_in_else, locals_in_row}
 use Rattle.jr_table.specs.Binding.{value, statement as whole}
 use Rattle.jr_bind_expr.specs.Fits.{FitsType}
+use Rattle.jr_rewrite.specs.Spots.{level}
 use Rattle.jr_new_bodies.specs.declared.here.Here as raw
 use Rattle.jr_new_bodies.specs.Known.{rows_of, context_of, IsKnown, ExpReady, TypeIsBound}
-use Rattle.jr_new_bodies.specs.Walks.{ExpGathers}
+use Rattle.jr_new_bodies.specs.Walks.{ExpGathers, PartGathers}
 use Rattle.jr_new_bodies.specs.Effects.{Effect}
 use Rattle.jr_new_bodies.specs.declared.statements.Last.{Last}
 use Rattle.jr_new_bodies.specs.declared.statements.Reached.TheVariants as reached
@@ -126,7 +127,7 @@ module _ {A : Type 0} (tells : A → ℕ → Span) (F : A → ℕ → Type 0) (h
         },
       )
 
-  pub loop_leaves : (e : tree.Exp A) (x y : Stmt A) (old now : Effect) → x ≡ y → IsKnown h → ExpGathers tells h value at e old now → StmtReady tells F h n (path ++ 1 ∷ []) at (stmt_of x)
+  pub loop_leaves : (e : tree.Exp A) (x y : Stmt A) (old now : Effect) → x ≡ y → IsKnown h → PartGathers tells h (level 0) value at e old now → StmtReady tells F h n (path ++ 1 ∷ []) at (stmt_of x)
       → IsLast (stmt_of x) (statement.loop m e (stmt_of y))
       × Leaves tells F h (n + locals_in (statement.loop m e (stmt_of y))) (λ new. StmtGathers tells h n base (statement.loop m e (stmt_of y)) old new) (stmt_of x) n (path ++ 1 ∷ []) at h now
   unfolding locals_in locals_in_else locals_in_row
@@ -136,7 +137,7 @@ module _ {A : Type 0} (tells : A → ℕ → Span) (F : A → ℕ → Type 0) (h
       goes = stays_here h known;
       count = ap (λ (z : Stmt A). n + locals_in (stmt_of z)) same;
       ready = ready;
-      gives = λ new g. loop_gives tells h n base m e (stmt_of y) old now new (here (λ j. ExpGathers tells h value j e old now) test)
+      gives = λ new g. loop_gives tells h n base m e (stmt_of y) old now new (here (λ j. PartGathers tells h (level 0) value j e old now) test)
           (here (λ j. StmtGathers tells h n j (stmt_of y) now new) (subst (λ z. StmtGathers tells h n at (stmt_of z) now new) same g));
     },
   )

@@ -34,14 +34,14 @@ local_is : {A : Type 0} (k : MemberKey) (n : ℕ) (f : Bool) (t : tree.TypeName 
 local_is k n f t w h is = λ i. record { name = is.name i; key = key_of k (is.number_is i); is_final = is.final i; type = is.type i; has_init = is.init i }
 
 goes_to : (h : raw.Here) (u : Scopes) (c : Context) → AreBeside h.scopes u → IsKept u → scopes.context_of u ≡ c
-    → Goes h (record { scopes = u; bound = h.bound; from = h.from }) c
-goes_to h u c b kept is = record { known = kept; context = is; rows = b.rows; mapping = b.mapping; bound = refl; from_is = refl }
+    → Goes h (record { scopes = u; bound = h.bound; from = h.from; spots = h.spots }) c
+goes_to h u c b kept is = record { known = kept; context = is; rows = b.rows; mapping = b.mapping; bound = refl; from_is = refl; spots = refl }
 
 module _ (h : raw.Here) where
   pub declared : {A : Type 0} (t u : Scopes) (n : ℕ) (f : Bool) (ty : tree.TypeName A) (w : tree.Word A) (hd : Held)
       → IsHeld n f ty w hd → AreBeside h.scopes t → locals_in t ≡ locals_in h.scopes ++ hd ∷ []
       → AreBeside t u → locals_in u ≡ locals_in t → u.own ≡ Some n → IsKept u
-      → Goes h (record { scopes = u; bound = h.bound; from = h.from }) (in_own (context_of h) (local_of (context_of h) n f ty w))
+      → Goes h (record { scopes = u; bound = h.bound; from = h.from; spots = h.spots }) (in_own (context_of h) (local_of (context_of h) n f ty w))
   unfolding scopes.context_of
   declared t u n f ty w hd held b pushed d same own kept =
       let s = h.scopes in
@@ -52,12 +52,12 @@ module _ (h : raw.Here) where
       (beside_context s u (beside_then s t u b d) (locals_in s ++ hd ∷ []) (same ∙ pushed) (Some n) own ∙ (λ i. record { member = k; is_static = s.before.is_static; locals = all i; own = Some (key_of k n) }))
 
   pub left_own : (u : Scopes) → AreBeside h.scopes u → locals_in u ≡ locals_in h.scopes → u.own ≡ None → IsKept u
-      → Goes h (record { scopes = u; bound = h.bound; from = h.from }) (without_own (context_of h))
+      → Goes h (record { scopes = u; bound = h.bound; from = h.from; spots = h.spots }) (without_own (context_of h))
   unfolding scopes.context_of
   left_own u b same own kept = goes_to h u (without_own (context_of h)) b kept (beside_context h.scopes u b (locals_in h.scopes) same None own)
 
   pub cut_to : (t u : Scopes) (n : ℕ) (own : Option ℕ) → AreBeside h.scopes t → locals_in t ≡ take n (locals_in h.scopes) → AreBeside t u → locals_in u ≡ locals_in t → u.own ≡ own → IsKept u
-      → Goes h (record { scopes = u; bound = h.bound; from = h.from }) (cut n own (context_of h))
+      → Goes h (record { scopes = u; bound = h.bound; from = h.from; spots = h.spots }) (cut n own (context_of h))
   unfolding scopes.context_of
   cut_to t u n own b fewer d same owned kept =
       let s = h.scopes in

@@ -8,20 +8,21 @@ use Rattle.jr_table.specs.Decls.{Decl}
 use Rattle.jr_table.specs.Context.{Context}
 use Rattle.jr_rewrite.specs.Rewrites.{
   DeclaredOut,
-  RewritesMaybe,
-  RewritesStmt,
-  RewritesElse,
-  RewritesStmts,
+  TransformsMaybe,
+  TransformsStmt,
+  TransformsElse,
+  TransformsList,
 }
 use Rattle.jr_new_bodies.specs.declared.here.Here as raw
 use Rattle.jr_new_bodies.specs.Known.{context_of}
-use Rattle.jr_new_bodies.specs.Walks.{choosing}
+use Rattle.jr_new_bodies.specs.Walks.{choosing, spotted}
 use Rattle.jr_new_bodies.specs.Effects.{Effect, Gathers}
+use Rattle.jr_new_bodies.specs.Spotting.{Unseen}
 
 module _ {A : Type 0} (tells : A → ℕ → Span) (h : raw.Here) where
   abbrev pub MaybeGathers : (at : ℕ) → Option (tree.Exp A) → (old new : Effect) → Type 0
-  MaybeGathers at e old new = (s : Context → ℕ)
-      → Gathers (RewritesMaybe tells (choosing tells h s) (context_of h) at e) old new
+  MaybeGathers at e old new = (u : Unseen A) → Gathers (TransformsMaybe tells
+      (choosing tells h u.super_at) (spotted tells h u) (context_of h) at e) old new
 
   abbrev pub WordGathers : Decl → (at : ℕ) → tree.Word A → (old new : Effect) → Type 0
   WordGathers d at w old new = (s : Context → ℕ)
@@ -29,15 +30,15 @@ module _ {A : Type 0} (tells : A → ℕ → Span) (h : raw.Here) where
 
   abbrev pub StmtGathers : (number : ℕ) → (base : ℕ) → statement.Stmt A → (old new : Effect)
       → Type 0
-  StmtGathers n base x old new = (s : Context → ℕ)
-      → Gathers (RewritesStmt tells (choosing tells h s) n (context_of h) base x) old new
+  StmtGathers n base x old new = (u : Unseen A) → Gathers (TransformsStmt tells
+      (choosing tells h u.super_at) (spotted tells h u) n (context_of h) base x) old new
 
   abbrev pub ElseGathers : (number : ℕ) → (base : ℕ) → statement.Else A → (old new : Effect)
       → Type 0
-  ElseGathers n base x old new = (s : Context → ℕ)
-      → Gathers (RewritesElse tells (choosing tells h s) n (context_of h) base x) old new
+  ElseGathers n base x old new = (u : Unseen A) → Gathers (TransformsElse tells
+      (choosing tells h u.super_at) (spotted tells h u) n (context_of h) base x) old new
 
   abbrev pub StmtsGather : (number : ℕ) → (base : ℕ) → statement.Stmts A → (old new : Effect)
       → Type 0
-  StmtsGather n base xs old new = (s : Context → ℕ)
-      → Gathers (RewritesStmts tells (choosing tells h s) n (context_of h) base xs) old new
+  StmtsGather n base xs old new = (u : Unseen A) → Gathers (TransformsList tells
+      (choosing tells h u.super_at) (spotted tells h u) n (context_of h) base xs) old new

@@ -58,7 +58,7 @@ use Rattle.jr_spell.specs.declared.references.RefForm.TheVariants as ref
 use Rattle.jr_images.specs.Spelling.{reference, operand_of}
 use Rattle.jr_new_words.specs.Spelled as spells
 use Rattle.jr_rewrite.specs.Respellings.{Choice}
-use Rattle.jr_new_words.specs.Mappings.{Mapping, class_to, ctor_to, types_to, rows_to, scope_to}
+use Rattle.jr_new_words.specs.Mappings.{Mapping, class_to, ctor_to, types_now, rows_to, scope_to}
 use Rattle.jr_new_words.specs.Scopes as scopes
 use Rattle.jr_new_words.specs.Chosen.{unmarked}
 use Rattle.jr_new_bodies.specs.declared.here.Here as raw
@@ -270,8 +270,9 @@ module _ {A : Type 0} (begins : A → ℕ → ℕ) (rows : List Row) (g : Mappin
       × WritesType rows (scope_of c) t (class k)
       × CreationFinds rows c t args (one (constructor_decl q)) × HaveTypes rows c args ts
       × spells.Spells begins rows g (scope_to g c) at [] [] (constructor_decl q)
-      (constructor_decl (ctor_to g q)) (reference ref.AsAsked [] (operand_of (class_to g k)) (types_to g ts))
-      (FindsCtorOf (rows_to g rows) (scope_to g c) (class_to g k) (types_to g ts)) h
+      (constructor_decl (ctor_to g q)) (reference ref.AsAsked [] (operand_of (class_to g k))
+      (types_now g c args ts))
+      (FindsCtorOf (rows_to g rows) (scope_to g c) (class_to g k) (types_now g c args ts)) h
 
 -- the names of a class as a type
 abbrev pub NamedIsBound : {A : Type 0} → List Row → Context → Option (tree.Word A) → tree.Word A

@@ -8,7 +8,8 @@ use Rattle.jr_table.specs.Context.{locals_in, locals_in_else}
 use Rattle.jr_table.specs.Binding.{value}
 use Rattle.jr_new_bodies.specs.declared.here.Here as raw
 use Rattle.jr_new_bodies.specs.Known.{context_of}
-use Rattle.jr_new_bodies.specs.Walks.{ExpGathers}
+use Rattle.jr_rewrite.specs.Spots.{level}
+use Rattle.jr_new_bodies.specs.Walks.{PartGathers}
 use Rattle.jr_new_bodies.specs.Effects.{Effect}
 use Rattle.jr_new_bodies.specs.declared.statements.Last.{Last}
 use Rattle.jr_new_bodies.specs.declared.statements.Reached.{Reached}
@@ -51,7 +52,7 @@ module _ {A : Type 0} (tells : A → ℕ → Span) (Fits : A → ℕ → Type 0)
         → (old now : Effect) → Type 0
     BranchPasses e x other l i old now = IsLastOf (stmt_of l.of.now) x other
         × LeavesLast h path (number + locals_in x + locals_in_else other)
-        (λ new. (one : Effect) × (two : Effect) × ExpGathers tells h value at e old one
+        (λ new. (one : Effect) × (two : Effect) × PartGathers tells h (level 0) value at e old one
         × StmtGathers tells h number at x one two
         × ElseGathers tells h (number + locals_in x) at other two new) l i now
 

@@ -1,4 +1,6 @@
 pub mod Effects
+pub mod Spotting
+pub mod SpotView
 pub mod OutputView
 pub mod Known
 pub mod Walks

@@ -44,6 +44,16 @@ module _ {A : Type 0} where
   front (tree.field m e w) = Some e
   front _ = None
 
+  -- the expression in parentheses, or that is assigned, and a simple name
+  abbrev pub within : tree.Exp A → Option (tree.Exp A)
+  within (tree.paren m e) = Some e
+  within (tree.assign m e f) = Some e
+  within _ = None
+
+  abbrev pub simple_name : tree.Exp A → Option (List ℕ)
+  simple_name (tree.name m w) = Some w.text
+  simple_name _ = None
+
 module _ {A : Type 0} (rows : List Row) (c : Context) where
   -- in front of a dot the expression names this class
   abbrev pub IsNamed : tree.Exp A → Option ClassKey → Type 0

@@ -16,7 +16,8 @@ use Rattle.jr_new_bodies.specs.declared.here.Here as raw
 use Rattle.jr_new_bodies.specs.Effects.{Effect}
 use Rattle.jr_new_bodies.specs.Known.{rows_of, mapping_of, context_of, IsKnown}
 use Rattle.jr_table.specs.Binding.{value}
-use Rattle.jr_new_bodies.specs.Walks.{ExpGathers}
+use Rattle.jr_rewrite.specs.Spots.{level}
+use Rattle.jr_new_bodies.specs.Walks.{PartGathers}
 use Rattle.jr_new_bodies.specs.Bodies.{StmtGathers, StmtsGather}
 
 -- another place of the same member in the same programs, where this is known
@@ -27,6 +28,7 @@ pub record Goes (old new : raw.Here) (c : Context) : Type 0 where
   pub mapping : mapping_of new ≡ mapping_of old
   pub bound : new.bound.now ≡ old.bound.now
   pub from_is : new.from ≡ old.from
+  pub spots : new.spots ≡ old.spots
 
 abbrev pub without_own : Context → Context
 without_own c = record {
@@ -84,5 +86,5 @@ module _ {A : Type 0} (tells : A → ℕ → Span) (number : ℕ) (h : raw.Here)
   abbrev pub SyncPasses : tree.Exp A → statement.Stmts A → (n : ℕ) → raw.Here
       → (old new : Effect) → Type 0
   SyncPasses e body n i old new = Passes h i n (number + locals_in_row body) (context_of h)
-      ((one : Effect) × ExpGathers tells h value at e old one
+      ((one : Effect) × PartGathers tells h (level 0) value at e old one
       × StmtsGather tells h number at body one new)

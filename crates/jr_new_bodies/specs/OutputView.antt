@@ -23,7 +23,13 @@ use Rattle.jr_rewrite.specs.Respellings.{
   Loss,
   Change,
 }
-use Rattle.jr_rewrite.specs.Rewritten.{count_of, losses_of, word_changes, drops_operand}
+use Rattle.jr_rewrite.specs.Rewritten.{
+  change,
+  count_of,
+  losses_of,
+  word_changes,
+  drops_operand,
+}
 use Rattle.jr_rewrite.specs.Puts.{
   before_changes,
   behind_changes,
@@ -39,6 +45,7 @@ use Rattle.jr_new_words.specs.ChoiceView.{lost_of}
 use Rattle.jr_new_bodies.specs.declared.outputs.Output as raw
 use Rattle.jr_new_bodies.specs.declared.outputs.Start as raw_start
 use Rattle.jr_new_bodies.specs.Effects.{Effect, no_effect, both}
+use Rattle.jr_new_bodies.specs.Spotting.{PartSpot, text_of}
 
 abbrev pub chosen_of : raw_chosen.Chosen → Respelling
 chosen_of r = view.chosen_of r
@@ -128,6 +135,14 @@ class_end (loses l) outer word inside = both inside (record
 -- both, where `p` is chosen for the name in front
 abbrev pub qualified : (p h : Choice) → (outer word : Span) → Effect
 qualified p h outer word = class_end h outer word (alone p outer)
+
+-- what comes in place of an expression, of which so much is asked
+abbrev pub in_place : PartSpot → (least : ℕ) → Effect
+in_place p least = record {
+  changes = change p.at (text_of p least) ∷ [];
+  respelled = p.respelled;
+  losses = [];
+}
 
 -- what a choice loses alone
 abbrev pub lost : Choice → Effect

@@ -1,18 +1,22 @@
 -- What a walk gathers of each part of a tree at a place: exactly what a rewriting of it gives, as
--- `jr_new_words: spelling` chooses, wherever a written `super(..)` stands.
+-- `jr_new_words: spelling` chooses and the place's spots have it, wherever a written `super(..)`
+-- stands and whichever trees come at spots.
 use Rattle.std.specs.Prelude.{◌≡◌, ℕ, Option, Some, None}
 use Rattle.jr_text.specs.declared.spans.Span.{Span}
 use Rattle.jr_ast.specs.Tree as tree
 use Rattle.jr_ast.specs.Marks.{exp_mark}
 use Rattle.jr_table.specs.Context.{Context}
 use Rattle.jr_table.specs.Binding.{Role, value, left}
-use Rattle.jr_rewrite.specs.Respellings.{Choice}
+use Rattle.jr_grammar.specs.Shape.{unsigned_level}
+use Rattle.jr_rewrite.specs.Respellings.{Choice, front_of}
 use Rattle.jr_rewrite.specs.Rewritten.{Rewritten}
+use Rattle.jr_rewrite.specs.Spots.{Asks, level, Spotted, operand_asks}
 use Rattle.jr_rewrite.specs.Rewrites.{
   Choosing,
   RewritesType,
-  RewritesExp,
-  RewritesRow,
+  TransformsExp,
+  TransformsPart,
+  TransformsRow,
 }
 use Rattle.jr_new_words.specs.Spelled.{
   spelling,
@@ -29,6 +33,8 @@ use Rattle.jr_new_words.specs.Chosen.{
 }
 use Rattle.jr_new_bodies.specs.declared.here.Here as raw
 use Rattle.jr_new_bodies.specs.Effects.{Effect, both, effect_of, Gathers}
+use Rattle.jr_new_bodies.specs.Spotting.{Unseen, spots_of}
+use Rattle.jr_new_bodies.specs.SpotView.{spotting_of}
 use Rattle.jr_new_bodies.specs.OutputView.{alone, behind_super, in_front, behind, lost, qualified}
 use Rattle.jr_new_bodies.specs.Known.{
   rows_of,
@@ -46,21 +52,30 @@ module _ {A : Type 0} (tells : A → ℕ → Span) (h : raw.Here) where
   abbrev pub choosing : (Context → ℕ) → Choosing A
   choosing s = spelling (λ m b. (tells m b).from) (rows_of h) (mapping_of h) s
 
+  abbrev pub spotted : Unseen A → Spotted A
+  spotted u = spots_of tells u (spotting_of h.spots)
+
   abbrev pub ExpGathers : Role → (base : ℕ) → tree.Exp A → (old new : Effect) → Type 0
-  ExpGathers role base e old new = (s : Context → ℕ)
-      → Gathers (RewritesExp tells (choosing s) (context_of h) role base e) old new
+  ExpGathers role base e old new = (u : Unseen A) → Gathers
+      (TransformsExp tells (choosing u.super_at) (spotted u) (context_of h) role base e) old new
+
+  -- of which so much is asked
+  abbrev pub PartGathers : Asks → Role → (base : ℕ) → tree.Exp A → (old new : Effect) → Type 0
+  PartGathers k role base e old new = (u : Unseen A) → Gathers
+      (TransformsPart tells (choosing u.super_at) (spotted u) k (context_of h) role base e) old new
 
   -- an operand and the word behind its dot, for which h is chosen
   abbrev pub DottedGathers : Choice → (at : ℕ) → (word : Span) → tree.Exp A → (old new : Effect)
       → Type 0
-  DottedGathers c at word e old new = (s : Context → ℕ) → (p : Rewritten (tree.Exp A))
-      × RewritesExp tells (choosing s) (context_of h) left at e p
+  DottedGathers c at word e old new = (u : Unseen A) → (p : Rewritten (tree.Exp A))
+      × TransformsPart tells (choosing u.super_at) (spotted u) (operand_asks (front_of c))
+      (context_of h) left at e p
       × (new ≡ both old (both (in_front c (tells (exp_mark e) at))
       (behind c (tells (exp_mark e) at) word (effect_of p))))
 
   abbrev pub RowGathers : (at : ℕ) → tree.Exps A → (old new : Effect) → Type 0
-  RowGathers at es old new = (s : Context → ℕ)
-      → Gathers (RewritesRow tells (choosing s) (context_of h) at es) old new
+  RowGathers at es old new = (u : Unseen A) → Gathers
+      (TransformsRow tells (choosing u.super_at) (spotted u) (context_of h) at es) old new
 
   abbrev pub TypeGathers : (base : ℕ) → tree.TypeName A → (old new : Effect) → Type 0
   TypeGathers base t old new = (s : Context → ℕ)
@@ -68,14 +83,16 @@ module _ {A : Type 0} (tells : A → ℕ → Span) (h : raw.Here) where
 
   -- ---- in a node that begins at `at`
 
-  -- two operands; a type and an operand
-  abbrev pub PairGathers : (at : ℕ) → (x y : tree.Exp A) → (old new : Effect) → Type 0
-  PairGathers at x y old new =
-      (mid : Effect) × ExpGathers value at x old mid × ExpGathers value at y mid new
+  -- two operands, of each of which so much is asked; a type and an operand
+  abbrev pub PairGathers : (j k : Asks) → (at : ℕ) → (x y : tree.Exp A) → (old new : Effect)
+      → Type 0
+  PairGathers j k at x y old new =
+      (mid : Effect) × PartGathers j value at x old mid × PartGathers k value at y mid new
 
   abbrev pub CastGathers : (at : ℕ) → tree.TypeName A → tree.Exp A → (old new : Effect) → Type 0
   CastGathers at t e old new =
-      (mid : Effect) × TypeGathers at t old mid × ExpGathers value at e mid new
+      (mid : Effect) × TypeGathers at t old mid
+      × PartGathers (level unsigned_level) value at e mid new
 
   -- a simple name
   abbrev pub SimpleGathers : Role → (at : ℕ) → tree.Word A → (old new : Effect) → Type 0

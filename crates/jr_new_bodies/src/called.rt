@@ -17,10 +17,11 @@ ghost use Rattle.jr_new_bodies.specs.Known.{TypesCreation};
 use crate::chosen::words_stand;
 use crate::here::Here;
 use crate::meanings::{Before, before_dot, types, value_at};
+use crate::new_types::{class_now, types_now};
 use jr_ast::{Expr, Name, Path, TypeRef};
 use jr_new_words::{
-    Choice, call, class_type_to, creation, qualified_type, qualifier, simple_call, simple_type,
-    static_call, super_call, super_ctor, types_to,
+    Choice, call, creation, qualified_type, qualifier, simple_call, simple_type, static_call,
+    super_call, super_ctor,
 };
 use jr_table::{ClassKey, Tys, lookups_are_exact, types_are_exact};
 use jr_text::Mark;
@@ -49,7 +50,7 @@ pub(crate) fn simple_call_choice<A: Mark>(
     here.scopes.programs.before.keeps_rows();
     let types = types(alloc, here, path, 1, args)?;
     let types = types.unwrap();
-    let images = types_to(alloc, &here.scopes.programs.keys, &types)?;
+    let images = types_now(alloc, here, args, &types)?;
     let choice = simple_call(alloc, &here.scopes, at, name, &types, &images)?;
     Ok(choice.unwrap())
 }
@@ -79,9 +80,8 @@ fn value_call<A: Mark>(
     lookups_are_exact();
     types_are_exact::<A>();
     here.scopes.programs.before.keeps_rows();
-    let _count = args.len();
-    let images = types_to(alloc, &here.scopes.programs.keys, types)?;
-    let now = class_type_to(&here.scopes.programs.keys, class)?;
+    let images = types_now(alloc, here, args, types)?;
+    let now = class_now(here, part, class)?;
     let choice = call(alloc, &here.scopes, at, class, &now, name, types, &images)?;
     Ok(choice.unwrap())
 }
@@ -117,9 +117,8 @@ fn class_call<A: Mark>(
     lookups_are_exact();
     types_are_exact::<A>();
     here.scopes.programs.before.keeps_rows();
-    let _count = args.len();
     let words = words_stand(here, base, part, class)?;
-    let images = types_to(alloc, &here.scopes.programs.keys, types)?;
+    let images = types_now(alloc, here, args, types)?;
     let choice = static_call(alloc, &here.scopes, at, words, class, name, types, &images)?;
     Ok(choice.unwrap())
 }
@@ -212,7 +211,7 @@ pub(crate) fn super_call_choice<A: Mark>(
     here.scopes.programs.before.keeps_rows();
     let types = types(alloc, here, path, 1, args)?;
     let types = types.unwrap();
-    let images = types_to(alloc, &here.scopes.programs.keys, &types)?;
+    let images = types_now(alloc, here, args, &types)?;
     let choice = super_call(alloc, &here.scopes, at, name, &types, &images)?;
     Ok(choice.unwrap())
 }
@@ -242,11 +241,10 @@ fn typed_creation<A: Mark>(
     types_are_exact::<A>();
     here.scopes.programs.before.keeps_rows();
     let _kind = &ty.kind;
-    let _count = args.len();
     match value_at(here, path) {
         Before::Class(_) => unreachable!(),
         Before::Value(class) => {
-            let images = types_to(alloc, &here.scopes.programs.keys, types)?;
+            let images = types_now(alloc, here, args, types)?;
             let choice = creation(alloc, &here.scopes, at, class, types, &images)?;
             Ok(choice.unwrap())
         }
@@ -305,7 +303,7 @@ pub fn super_ctor_choice<A: Mark>(
     here.scopes.programs.before.keeps_rows();
     let types = types(alloc, here, path, first, args)?;
     let types = types.unwrap();
-    let images = types_to(alloc, &here.scopes.programs.keys, &types)?;
+    let images = types_now(alloc, here, args, &types)?;
     let choice = super_ctor(alloc, &here.scopes, at, &types, &images)?;
     Ok(choice.unwrap())
 }

@@ -15,10 +15,11 @@ ghost use Rattle.jr_new_bodies.specs.Known.{ExpReady, SoundExp, RefersExp};
 
 use crate::here::{Here, Role};
 use crate::meanings::{Before, before_dot, front, named_class};
+use crate::new_types::class_now;
 use jr_ast::{Expr, Name, Path};
 use jr_new_words::{
-    Choice, InFront, class_type_to, field, first_word, left_class, member_class, next_word,
-    static_field, super_field, variable,
+    Choice, InFront, field, first_word, left_class, member_class, next_word, static_field,
+    super_field, variable,
 };
 use jr_table::{ClassKey, lookups_are_exact, types_are_exact};
 use jr_text::{Mark, Span};
@@ -200,7 +201,7 @@ fn on_value<A: Mark>(
 {
     lookups_are_exact();
     here.scopes.programs.before.keeps_rows();
-    let now = class_type_to(&here.scopes.programs.keys, class)?;
+    let now = class_now(here, part, class)?;
     let choice = field(alloc, &here.scopes, at, class, &now, name)?;
     Ok(choice.unwrap())
 }

@@ -1,17 +1,20 @@
 //! Places in a member.
 ghost use Rattle.std.specs.Prelude.{◌≡◌, ◌+◌, ◌++◌, ◌∷◌, [], IfOk};
 
+use crate::spots::Spots;
 use jr_ast::Path;
 use jr_bind::Bound;
 use jr_new_words::Scopes;
 use std::alloc::{AllocError, Global};
 
-/// What is known at a place: for spellings, and by binding of the member, which begins at `from`.
+/// What is known at a place: for spellings, and by binding of the member, which begins at `from`;
+/// and which expressions are rewritten in their own way.
 #[derive(Drop)]
 pub struct Here<'a> {
     pub scopes: Scopes<'a>,
     pub bound: &'a Bound,
     pub from: u32,
+    pub spots: Spots<'a>,
 }
 
 /// How an expression stands: as a value, before a dot, or as a whole statement.

@@ -100,7 +100,7 @@ pub(crate) fn local<'a, A: Mark>(
     let after = next(number)?;
     local_head(alloc, here, at, number, ty, name, out)?;
     declare(here, number, is_final, ty, name)?;
-    operand(alloc, here, path, 2, at, init, out)?;
+    operand(alloc, here, 0, path, 2, at, init, out)?;
     leave_own(here);
     Ok(after)
 }

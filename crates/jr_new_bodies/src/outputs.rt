@@ -6,7 +6,9 @@ ghost use Rattle.jr_new_words.specs.ChoiceView.{choice_of, lost_of};
 ghost use Rattle.jr_new_bodies.specs.Effects.{Effect, no_effect, both};
 ghost use Rattle.jr_new_bodies.specs.OutputView as pure;
 ghost use Rattle.jr_new_bodies.specs.OutputView.{gathered, IsStart};
+ghost use Rattle.jr_new_bodies.specs.SpotView.{part_of};
 
+use crate::spots::{PartSpot, text_of};
 use jr_new_words::{Choice, Chosen, Lost};
 use jr_rewrite::{Change, Front, put_before, put_behind, put_class, put_super, put_word};
 use jr_text::Span;
@@ -271,4 +273,34 @@ pub fn keep_loss(choice: Choice, out: &mut Output) -> Result<(), AllocError>
         Choice::Becomes(_) => Ok(()),
         Choice::Loses(lost) => lose(lost, out),
     }
+}
+
+/// So many more. More than numbers don't fit any memory.
+fn more_respelled(respelled: u64, more: u64) -> Result<u64, AllocError>
+    ensures { IfOk result (λ n. n ≡ respelled + more) }
+{
+    match respelled.checked_add(more) {
+        None => Err(AllocError),
+        Some(all) => Ok(all),
+    }
+}
+
+/// What comes in place of an expression of which so much is asked.
+pub(crate) fn put_part(
+    alloc: Global,
+    part: &PartSpot<'_>,
+    least: u32,
+    out: &mut Output,
+) -> Result<(), AllocError>
+    ensures { OnOk result (gathered out.new
+        ≡ both (gathered out.old) (pure.in_place (part_of part.now) least)) }
+{
+    let respelled = more_respelled(out.respelled, part.respelled)?;
+    let text = String::from_str(alloc, text_of(part, least))?;
+    out.changes.push(Change {
+        span: part.at,
+        text,
+    })?;
+    out.respelled = respelled;
+    Ok(())
 }

@@ -40,7 +40,7 @@ pub fn maybe<A: Mark>(
 {
     match of {
         None => Ok(()),
-        Some(of) => operand(alloc, here, path, step, at, of, out),
+        Some(of) => operand(alloc, here, 0, path, step, at, of, out),
     }
 }
 
@@ -123,7 +123,7 @@ fn head<'a, A: Mark>(
             Ok(Reached::To(last))
         }
         StmtKind::While(test, body) => {
-            operand(alloc, here, path, 0, at, test, out)?;
+            operand(alloc, here, 0, path, 0, at, test, out)?;
             Ok(Reached::To(Last {
                 of: body,
                 step: 1,
@@ -147,10 +147,12 @@ fn head<'a, A: Mark>(
     }
 }
 
-/// What comes of a statement; answers the number of the next local. A local that it declares stays
-/// in scope.
+/// Gathers what comes of a statement of a list (JLS 14.2), which stands at its path in a node whose
+/// first byte is `base`; `number` is that of the first local that is declared in it. Answers the
+/// number of the next one. A local that it declares stays in scope. The only fault is want of
+/// memory.
 #[cycle(stmt_walk)]
-pub(crate) fn stmt<'a, A: Mark>(
+pub fn stmt<'a, A: Mark>(
     alloc: Global,
     here: &mut Here<'a>,
     path: &Path,
@@ -200,7 +202,7 @@ fn branch<'a, A: Mark>(
         path.now.steps.items at (expr_of test.now) (stmt_of yes.now) (else_of no.now) l here.new
         (gathered out.old) (gathered out.new)) }
 {
-    operand(alloc, here, path, 0, at, test, out)?;
+    operand(alloc, here, 0, path, 0, at, test, out)?;
     match no {
         None => Ok(Last {
             of: yes,
@@ -239,7 +241,7 @@ fn sync<'a, A: Mark>(
         (expr_of object.now) (stmts_of body.now) n here.new (gathered out.old)
         (gathered out.new)) }
 {
-    operand(alloc, here, path, 0, at, object, out)?;
+    operand(alloc, here, 0, path, 0, at, object, out)?;
     stmts(alloc, here, path, 1, at, number, body, out)
 }
 

@@ -1,8 +1,10 @@
 //! The walk over an expression.
-ghost use Rattle.std.specs.Prelude.{◌≡◌, ◌++◌, ◌∷◌, [], IfOk};
+ghost use Rattle.std.specs.Prelude.{◌≡◌, ◌++◌, ◌∷◌, [], IfOk, suc};
 ghost use Rattle.jr_ast.specs.Tree as tree;
 ghost use Rattle.jr_ast.specs.View.{word_of, type_of, expr_of, exprs_of, target_of};
 ghost use Rattle.jr_table.specs.Binding.{value, left};
+ghost use Rattle.jr_grammar.specs.Shape.{rank_of};
+ghost use Rattle.jr_rewrite.specs.Spots.{level, a_target};
 ghost use Rattle.jr_bind_expr.specs.Fits.{FitsType};
 ghost use Rattle.jr_new_words.specs.ChoiceView.{choice_of};
 ghost use Rattle.jr_new_bodies.specs.Known.{role_of, rows_of, context_of, IsKnown, TypeIsBound};
@@ -12,132 +14,18 @@ ghost use Rattle.jr_new_bodies.specs.Known as pure;
 ghost use Rattle.jr_new_bodies.specs.Walks as gives;
 ghost use Rattle.jr_new_bodies.specs.OutputView.{gathered};
 
-use crate::called::{call_choice, creation_choice, simple_call_choice, super_call_choice};
-use crate::chosen::{dotted_choice, name_choice, super_field_choice};
+use crate::called::call_choice;
+use crate::chosen::dotted_choice;
 use crate::here::{Here, Role, below, next};
-use crate::outputs::{Output, keep_loss, put_alone, put_end, put_front, put_on_super, start_of};
+use crate::levels::{SIGN_LEVEL, UNSIGNED_LEVEL, asked_by, rank};
+use crate::node_words::{call_word, called_on_super, creation_words, on_super, simple};
+use crate::outputs::{Output, put_end, put_front, put_part, start_of};
+use crate::spots::part_at;
 use crate::type_names::written_type;
-use jr_ast::{Expr, ExprKind, Ident, Path, TypeRef};
+use jr_ast::{BinOp, Expr, ExprKind, Ident, Path, TypeRef};
 use jr_new_words::Choice;
 use jr_text::{Mark, Span};
 use std::alloc::{AllocError, Global};
-
-/// A simple name, in a node that begins at `at`.
-fn simple<A: Mark>(
-    alloc: Global,
-    here: &Here<'_>,
-    role: Role,
-    at: u32,
-    name: &Ident<A>,
-    out: &mut Output,
-) -> Result<(), AllocError>
-    requires known { IsKnown here.now }
-    requires fits { A.fits_at name.now.mark at }
-    requires bound { pure.NameIsBound (rows_of here.now) (context_of here.now)
-        (role_of role) name.now.name }
-    ensures { IfOk result (λ _. gives.SimpleGathers A.span_from here.now (role_of role) at
-        (word_of name.now) (gathered out.old) (gathered out.new)) }
-{
-    let word = name.mark.span(at);
-    let choice = name_choice(alloc, here, role, word.from, &name.name)?;
-    put_alone(alloc, word, choice, out)
-}
-
-/// A field behind `super`, in a node of this span.
-fn on_super<A: Mark>(
-    alloc: Global,
-    here: &Here<'_>,
-    node: Span,
-    name: &Ident<A>,
-    out: &mut Output,
-) -> Result<(), AllocError>
-    requires known { IsKnown here.now }
-    requires fits { A.fits_at name.now.mark node.from }
-    requires bound { pure.SuperFieldIsBound (rows_of here.now) (context_of here.now)
-        name.now.name }
-    ensures { IfOk result (λ _. gives.SuperGathers A.span_from here.now node (word_of name.now)
-        (gathered out.old) (gathered out.new)) }
-{
-    let word = name.mark.span(node.from);
-    let choice = super_field_choice(alloc, here, word.from, &name.name)?;
-    put_on_super(alloc, node, word, choice, out)
-}
-
-/// The word of a call without a target, in a node that begins at `at`.
-fn call_word<A: Mark>(
-    alloc: Global,
-    here: &Here<'_>,
-    path: &Path,
-    at: u32,
-    name: &Ident<A>,
-    args: &[Expr<A>],
-    out: &mut Output,
-) -> Result<(), AllocError>
-    requires known { IsKnown here.now }
-    requires fits { A.fits_at name.now.mark at }
-    requires types { TypesRow here.now (context_of here.now) path.now.steps.items 1
-        (exprs_of args.now) }
-    requires bound { pure.CallIsBound (λ m b. (A.span_from m b).from) (rows_of here.now)
-        (context_of here.now) tree.no_target name.now.name (exprs_of args.now) }
-    ensures { IfOk result (λ _. gives.CalledGathers A.span_from here.now at (word_of name.now)
-        (exprs_of args.now) (gathered out.old) (gathered out.new)) }
-{
-    let word = name.mark.span(at);
-    let choice = simple_call_choice(alloc, here, path, args, word.from, &name.name)?;
-    put_alone(alloc, word, choice, out)
-}
-
-/// The word of a call behind `super`, in a node that begins at `at`.
-fn called_on_super<A: Mark>(
-    alloc: Global,
-    here: &Here<'_>,
-    path: &Path,
-    at: u32,
-    name: &Ident<A>,
-    args: &[Expr<A>],
-    out: &mut Output,
-) -> Result<(), AllocError>
-    requires known { IsKnown here.now }
-    requires fits { A.fits_at name.now.mark at }
-    requires types { TypesRow here.now (context_of here.now) path.now.steps.items 1
-        (exprs_of args.now) }
-    requires bound { pure.SuperCallIsBound (λ m b. (A.span_from m b).from) (rows_of here.now)
-        (context_of here.now) name.now.name (exprs_of args.now) }
-    ensures { IfOk result (λ _. gives.SuperCalledGathers A.span_from here.now at
-        (word_of name.now) (exprs_of args.now) (gathered out.old) (gathered out.new)) }
-{
-    let word = name.mark.span(at);
-    let choice = super_call_choice(alloc, here, path, args, word.from, &name.name)?;
-    put_alone(alloc, word, choice, out)
-}
-
-/// The class and the constructor of a creation that begins at `at`.
-fn creation_words<A: Mark>(
-    alloc: Global,
-    here: &Here<'_>,
-    path: &Path,
-    at: u32,
-    ty: &TypeRef<A>,
-    args: &[Expr<A>],
-    out: &mut Output,
-) -> Result<(), AllocError>
-    requires known { IsKnown here.now }
-    requires fits { FitsType (λ m b. (A.span_from m b).from) A.fits_at at (type_of ty.now) }
-    requires created { TypesCreation here.now (context_of here.now) path.now.steps.items
-        (type_of ty.now) (exprs_of args.now) }
-    requires types { TypesRow here.now (context_of here.now) path.now.steps.items 1
-        (exprs_of args.now) }
-    requires type_bound { TypeIsBound (λ m b. (A.span_from m b).from) (rows_of here.now)
-        (context_of here.now) at (type_of ty.now) }
-    requires bound { pure.CreationIsBound (λ m b. (A.span_from m b).from) (rows_of here.now)
-        (context_of here.now) (type_of ty.now) (exprs_of args.now) }
-    ensures { IfOk result (λ _. gives.CreatedGathers A.span_from here.now at (type_of ty.now)
-        (exprs_of args.now) (gathered out.old) (gathered out.new)) }
-{
-    let choice = creation_choice(alloc, here, path, at, ty, args)?;
-    keep_loss(choice, out)?;
-    written_type(alloc, here, at, ty, out)
-}
 
 /// The number of a call's first argument among its parts.
 fn first_argument<A>(target: &Option<Box<Expr<A>>>) -> u32
@@ -181,21 +69,67 @@ pub(crate) fn expr<A: Mark>(
         ExprKind::Call(target, name, args) => call(alloc, here, path, at, target, name, args, out),
         ExprKind::SuperCall(name, args) => super_call(alloc, here, path, at, name, args, out),
         ExprKind::New(ty, args) => create(alloc, here, path, at, ty, args, out),
-        ExprKind::Paren(part) => operand(alloc, here, path, 0, at, part, out),
+        ExprKind::Paren(part) => operand(alloc, here, 0, path, 0, at, part, out),
         ExprKind::Cast(ty, part) => cast(alloc, here, path, at, ty, part, out),
-        ExprKind::Unary(_, part) => operand(alloc, here, path, 0, at, part, out),
-        ExprKind::Bump(_, part) => operand(alloc, here, path, 0, at, part, out),
-        ExprKind::Binary(_, left, right) => pair(alloc, here, path, at, left, right, out),
-        ExprKind::Assign(to, value) => pair(alloc, here, path, at, to, value, out),
-        ExprKind::Compound(_, to, value) => pair(alloc, here, path, at, to, value, out),
+        ExprKind::Unary(_, part) => operand(alloc, here, SIGN_LEVEL, path, 0, at, part, out),
+        ExprKind::Bump(_, part) => target(alloc, here, path, at, part, out),
+        ExprKind::Binary(op, left, right) => pair(alloc, here, *op, path, at, left, right, out),
+        ExprKind::Assign(to, value) => assigned(alloc, here, path, at, to, value, out),
+        ExprKind::Compound(_, to, value) => assigned(alloc, here, path, at, to, value, out),
     }
 }
 
-/// An operand, which is the part of this number.
+/// Gathers what comes of an expression that is used for its value and goes elsewhere, so that it is
+/// no spot itself. It stands at its path in a node whose first byte is `base`. The only fault is
+/// want of memory.
+pub fn piece<A: Mark>(
+    alloc: Global,
+    here: &Here<'_>,
+    path: &Path,
+    base: u32,
+    of: &Expr<A>,
+    out: &mut Output,
+) -> Result<(), AllocError>
+    requires known { IsKnown here.now }
+    requires ready { ExpReady A.span_from A.fits_at here.now value path.now.steps.items base
+        (expr_of of.now) }
+    ensures { IfOk result (λ _. gives.ExpGathers A.span_from here.now value base
+        (expr_of of.now) (gathered out.old) (gathered out.new)) }
+{
+    expr(alloc, here, Role::Value, path, base, of, out)
+}
+
+/// An expression that has to bind so tightly, at its path, in a node that begins at `base`: as a
+/// spot has it, or node by node.
+#[cycle(walk)]
+fn asked<A: Mark>(
+    alloc: Global,
+    here: &Here<'_>,
+    role: Role,
+    least: u32,
+    path: &Path,
+    base: u32,
+    of: &Expr<A>,
+    out: &mut Output,
+) -> Result<(), AllocError>
+    requires known { IsKnown here.now }
+    requires ready { ExpReady A.span_from A.fits_at here.now (role_of role)
+        path.now.steps.items base (expr_of of.now) }
+    ensures { IfOk result (λ _. gives.PartGathers A.span_from here.now (level least)
+        (role_of role) base (expr_of of.now) (gathered out.old) (gathered out.new)) }
+{
+    match part_at(&here.spots, of.mark.span(base)) {
+        None => expr(alloc, here, role, path, base, of, out),
+        Some(spot) => put_part(alloc, spot, least, out),
+    }
+}
+
+/// An operand, which is the part of this number, and has to bind so tightly.
 #[cycle(walk)]
 pub(crate) fn operand<A: Mark>(
     alloc: Global,
     here: &Here<'_>,
+    least: u32,
     path: &Path,
     step: u32,
     at: u32,
@@ -205,18 +139,39 @@ pub(crate) fn operand<A: Mark>(
     requires known { IsKnown here.now }
     requires ready { ExpReady A.span_from A.fits_at here.now value
         (path.now.steps.items ++ step ∷ []) at (expr_of part.now) }
-    ensures { IfOk result (λ _. gives.ExpGathers A.span_from here.now value at
+    ensures { IfOk result (λ _. gives.PartGathers A.span_from here.now (level least) value at
         (expr_of part.now) (gathered out.old) (gathered out.new)) }
 {
     let inner = below(alloc, path, step)?;
-    expr(alloc, here, Role::Value, &inner, at, part, out)
+    asked(alloc, here, Role::Value, least, &inner, at, part, out)
 }
 
-/// Two operands.
+/// What is assigned, the first part, which is no spot.
+#[cycle(walk)]
+fn target<A: Mark>(
+    alloc: Global,
+    here: &Here<'_>,
+    path: &Path,
+    at: u32,
+    of: &Expr<A>,
+    out: &mut Output,
+) -> Result<(), AllocError>
+    requires known { IsKnown here.now }
+    requires ready { ExpReady A.span_from A.fits_at here.now value
+        (path.now.steps.items ++ 0 ∷ []) at (expr_of of.now) }
+    ensures { IfOk result (λ _. gives.PartGathers A.span_from here.now a_target value at
+        (expr_of of.now) (gathered out.old) (gathered out.new)) }
+{
+    let inner = below(alloc, path, 0)?;
+    expr(alloc, here, Role::Value, &inner, at, of, out)
+}
+
+/// The operands of a binary operator, of which the second has to bind more tightly (JLS 15.7).
 #[cycle(walk)]
 fn pair<A: Mark>(
     alloc: Global,
     here: &Here<'_>,
+    op: BinOp,
     path: &Path,
     at: u32,
     left: &Expr<A>,
@@ -228,11 +183,36 @@ fn pair<A: Mark>(
         (path.now.steps.items ++ 0 ∷ []) at (expr_of left.now) }
     requires ready_right { ExpReady A.span_from A.fits_at here.now value
         (path.now.steps.items ++ 1 ∷ []) at (expr_of right.now) }
-    ensures { IfOk result (λ _. gives.PairGathers A.span_from here.now at (expr_of left.now)
-        (expr_of right.now) (gathered out.old) (gathered out.new)) }
+    ensures { IfOk result (λ _. gives.PairGathers A.span_from here.now (level (rank_of op))
+        (level (suc (rank_of op))) at (expr_of left.now) (expr_of right.now)
+        (gathered out.old) (gathered out.new)) }
 {
-    operand(alloc, here, path, 0, at, left, out)?;
-    operand(alloc, here, path, 1, at, right, out)
+    let least = rank(op);
+    operand(alloc, here, least, path, 0, at, left, out)?;
+    operand(alloc, here, least + 1, path, 1, at, right, out)
+}
+
+/// A target, and what is assigned to it.
+#[cycle(walk)]
+fn assigned<A: Mark>(
+    alloc: Global,
+    here: &Here<'_>,
+    path: &Path,
+    at: u32,
+    to: &Expr<A>,
+    of: &Expr<A>,
+    out: &mut Output,
+) -> Result<(), AllocError>
+    requires known { IsKnown here.now }
+    requires ready_to { ExpReady A.span_from A.fits_at here.now value
+        (path.now.steps.items ++ 0 ∷ []) at (expr_of to.now) }
+    requires ready_value { ExpReady A.span_from A.fits_at here.now value
+        (path.now.steps.items ++ 1 ∷ []) at (expr_of of.now) }
+    ensures { IfOk result (λ _. gives.PairGathers A.span_from here.now a_target (level 0) at
+        (expr_of to.now) (expr_of of.now) (gathered out.old) (gathered out.new)) }
+{
+    target(alloc, here, path, at, to, out)?;
+    operand(alloc, here, 0, path, 1, at, of, out)
 }
 
 /// A type and an operand.
@@ -256,7 +236,7 @@ fn cast<A: Mark>(
         (expr_of part.now) (gathered out.old) (gathered out.new)) }
 {
     written_type(alloc, here, at, ty, out)?;
-    operand(alloc, here, path, 1, at, part, out)
+    operand(alloc, here, UNSIGNED_LEVEL, path, 1, at, part, out)
 }
 
 /// An operand, and the word behind its dot, for which this is chosen.
@@ -278,9 +258,10 @@ fn operand_and_word<A: Mark>(
         word (expr_of part.now) (gathered out.old) (gathered out.new)) }
 {
     let operand = part.mark.span(at);
+    let least = asked_by(&choice);
     put_front(alloc, operand, &choice, out)?;
     let from = start_of(out);
-    expr(alloc, here, Role::Left, path, at, part, out)?;
+    asked(alloc, here, Role::Left, least, path, at, part, out)?;
     put_end(alloc, operand, word, from, choice, out)
 }
 
@@ -471,7 +452,7 @@ pub fn exprs<A: Mark>(
 {
     let mut step = first;
     for part in parts {
-        operand(alloc, here, path, step, at, part, out)?;
+        operand(alloc, here, 0, path, step, at, part, out)?;
         step = next(step)?;
     }
     Ok(())

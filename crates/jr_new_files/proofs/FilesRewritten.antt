@@ -11,8 +11,8 @@ use Rattle.jr_table.specs.ProgramRows.{AreProgramRows}
 use Rattle.jr_members.specs.WrittenMembers.{written_members}
 use Rattle.jr_rewrite.specs.Rewritten.{Rewritten}
 use Rattle.jr_rewrite.specs.Rewrites.{Choosing, RewritesUnit, RewritesUnits}
-use Rattle.jr_images.specs.Images.{Renaming}
-use Rattle.jr_images.specs.Spelling.{spelling}
+use Rattle.jr_new_words.specs.Mappings.{Mapping}
+use Rattle.jr_new_words.specs.Spelled.{spelling}
 use Rattle.jr_new_bodies.specs.Effects.{Effect, effect_of}
 use Rattle.jr_new_files.specs.Files.{AllGive}
 use Rattle.jr_new_files.specs.FileLaws.{AreGathered, AreRewritten}
@@ -35,7 +35,7 @@ module _ {A : Type 0} (tells : A → ℕ → Span) (C : Choosing A) (declaration
       let q = units_give us es (omega (arith, same)) (λ i v d at_v at_d. each (suc i) v d at_v at_d) in
       (p.0 ∷ q.0, (p.0, q.0, p.1, q.1, refl), λ i. sym p.2 i ∷ q.2 i)
 
-module _ {A : Type 0} (tells : A → ℕ → Span) (rows : List Row) (super_at : MemberKey → ℕ) (units : List (syntax.Unit A)) (g : Renaming) where
+module _ {A : Type 0} (tells : A → ℕ → Span) (rows : List Row) (super_at : MemberKey → ℕ) (units : List (syntax.Unit A)) (g : Mapping) where
   abbrev begins : A → ℕ → ℕ
   begins m b = (tells m b).from
 

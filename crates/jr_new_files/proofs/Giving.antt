@@ -145,7 +145,7 @@ module _ (h : raw_here.Here) (n : ℕ) (args : tree.Exps Span) where
   pub super_gives : (at : ℕ) (old mid new : Effect) → CallGathers h n args old mid → RowGathers itself h at args mid new → WrittenGathers h n at args old new
   super_gives at old mid new (c, spells, is) row = λ s stands.
       let q = row s in (
-        with_losses itself (gathers.choosing itself h s) c (within (λ (xs : tree.Exps Span). Some xs) q.0),
+        with_losses itself (gathers.choosing itself h s.super_at) c (within (λ (xs : tree.Exps Span). Some xs) q.0),
         (c, q.0, subst (λ (i : ℕ). SuperCtorSpells begins (here.rows_of h) (here.mapping_of h) i (here.context_of h) args c) (sym stands) spells, q.1, refl),
         chain old mid new (lost c) (effect_of q.0) is q.2,
       )

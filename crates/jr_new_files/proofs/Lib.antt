@@ -10,6 +10,7 @@
 -- asked spelling is taken), `NothingBroken` (each reference finds one declaration); by kinds
 -- `WordsOfTypes`, `WordsOfNames`, `WordsOfCalls`; the walks `TreesStay`, `BodiesStay`,
 -- `MembersStay`.
+-- `Mapped`: what a rename chooses is what its mapping does.
 -- The program, lowest first: `Gathering` (effects one behind the other), `Putting` (a member in its
 -- file), `Sparing`, `Among` (members that are passed over), `Losing` (the least so far), `Whole`
 -- (what is gathered is the rewriting of the program, by `files_are_rewritten`).
@@ -23,7 +24,7 @@ mod Standing
 mod Placing
 mod ImagesStay
 mod Unmoved
-mod Namesakes
+pub mod Namesakes
 mod Passing
 mod AskedBinds
 mod NothingBroken
@@ -33,6 +34,7 @@ mod WordsOfCalls
 mod TreesStay
 mod BodiesStay
 mod MembersStay
+mod Mapped
 mod Losing
 mod Gathering
 mod Putting

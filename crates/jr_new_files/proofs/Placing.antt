@@ -17,7 +17,7 @@ use Rattle.jr_table.specs.HeadRules.{plain, with_parameters, types_of}
 use Rattle.jr_table.specs.Binding.{value}
 use Rattle.jr_scopes.specs.Helds.{Held, local_of, key_of}
 use Rattle.jr_bind.specs.Bounds.{Bound}
-use Rattle.jr_rewrite.specs.Rewrites.{RewritesType, RewritesMaybe, RewritesStmts, RewritesSuper}
+use Rattle.jr_rewrite.specs.Rewrites.{RewritesType, RewritesMaybe, RewritesStmts, RewritesSuper, TransformsMaybe, TransformsList, TransformsSuper}
 use Rattle.jr_new_words.specs.Mappings.{Mapping}
 use Rattle.jr_new_words.specs.Spelled.{spelling}
 use Rattle.jr_new_bodies.specs.Effects.{Effect, Gathers}
@@ -25,6 +25,7 @@ use Rattle.jr_new_words.specs.declared.scopes.Scopes as raw_scopes
 use Rattle.jr_new_words.specs.Scopes.{context_of, locals_in, member_of, AreBeside}
 use Rattle.jr_new_bodies.specs.declared.here.Here as raw_here
 use Rattle.jr_new_bodies.specs.Known as here
+use Rattle.jr_new_bodies.specs.Spotting.{Spotting, Unseen, spots_of}
 use Rattle.jr_new_bodies.specs.Walks as gathers
 use Rattle.jr_program_laws.specs.FileParts.{begins}
 use Rattle.jr_new_bodies.specs.Ready.{ExpReadyIn, StmtsReadyIn, MaybeReady, StmtsReady}
@@ -35,6 +36,10 @@ use Rattle.jr_new_files.specs.Walking.{key_of as key_in, rows_of, mapping_of, Ca
 use Rattle.jr_new_files.specs.Ready.{Anywhere, TypeReady, InitReady, BodyReady, SuperReady}
 use Rattle.jr_new_files.specs.PartEffects.{TypeGathers, InitGathers, BodyGathers, SuperGathers}
 use Rattle.jr_new_files.specs.Supers.{WrittenReady, WrittenGathers}
+
+-- without spots no tree comes at one
+abbrev unseen : (Context → ℕ) → Unseen Span
+unseen s = record { super_at = s; part = λ at least. tree.null at }
 
 module _ (w : raw.Walked) (h : raw_here.Here) (c : Context) (at_place : Begins w h c) where
   -- what holds of the member holds at the place
@@ -60,7 +65,9 @@ module _ (w : raw.Walked) (h : raw_here.Here) (c : Context) (at_place : Begins w
       subst (λ (p : List ℕ). MaybeReady itself Anywhere h p step at (Some e)) (sym none) (there (λ r b n d. ExpReadyIn itself Anywhere r b n d value (step ∷ []) at e) ready)
 
   pub init_back : (at : ℕ) (e : Option (tree.Exp Span)) (old new : Effect) → MaybeGathers itself h at e old new → InitGathers (rows_of w) (mapping_of w) c at e old new
-  init_back at e old new x = λ s. back (λ r g d. Gathers (RewritesMaybe itself (spelling begins r g s) d at e) old new) (x s)
+  init_back at e old new x = λ s.
+      back (λ r g d. Gathers (RewritesMaybe itself (spelling begins r g s) d at e) old new)
+      (subst (λ (z : Spotting). Gathers (TransformsMaybe itself (gathers.choosing itself h s) (spots_of itself (unseen s) z) (here.context_of h) at e) old new) at_place.spots (x (unseen s)))
 
   pub body_there : (path : List ℕ) → path ≡ [] → (number first at : ℕ) (xs : statement.Stmts Span) → BodyReady (rows_of w) w.bound.now w.from c number first at xs
       → StmtsReady itself Anywhere h number path first at xs
@@ -68,14 +75,18 @@ module _ (w : raw.Walked) (h : raw_here.Here) (c : Context) (at_place : Begins w
       subst (λ (p : List ℕ). StmtsReady itself Anywhere h number p first at xs) (sym none) (there (λ r b n d. StmtsReadyIn itself Anywhere r b n number d [] first at xs) ready)
 
   pub body_back : (number at : ℕ) (xs : statement.Stmts Span) (old new : Effect) → StmtsGather itself h number at xs old new → BodyGathers (rows_of w) (mapping_of w) c number at xs old new
-  body_back number at xs old new x = λ s. back (λ r g d. Gathers (RewritesStmts itself (spelling begins r g s) number d at xs) old new) (x s)
+  body_back number at xs old new x = λ s.
+      back (λ r g d. Gathers (RewritesStmts itself (spelling begins r g s) number d at xs) old new)
+      (subst (λ (z : Spotting). Gathers (TransformsList itself (gathers.choosing itself h s) (spots_of itself (unseen s) z) number (here.context_of h) at xs) old new) at_place.spots (x (unseen s)))
 
   pub super_there : (path : List ℕ) → path ≡ [] → (first at : ℕ) (args : tree.Exps Span) → SuperReady (rows_of w) w.bound.now w.from c first at args → WrittenReady h path first at args
   super_there path none first at args ready =
       subst (λ (p : List ℕ). WrittenReady h p first at args) (sym none) (there (λ r b n d. SuperReady r b n d first at args) ready)
 
   pub super_back : (n at : ℕ) (args : tree.Exps Span) (old new : Effect) → WrittenGathers h n at args old new → SuperGathers (rows_of w) (mapping_of w) c n at args old new
-  super_back n at args old new x = λ s is. back (λ r g d. Gathers (RewritesSuper itself (spelling begins r g s) d at (Some args)) old new) (x s (ap s at_place.context ∙ is))
+  super_back n at args old new x = λ s is.
+      back (λ r g d. Gathers (RewritesSuper itself (spelling begins r g s) d at (Some args)) old new)
+      (subst (λ (z : Spotting). Gathers (TransformsSuper itself (gathers.choosing itself h s) (spots_of itself (unseen s) z) (here.context_of h) at (Some args)) old new) at_place.spots (x (unseen s) (ap s at_place.context ∙ is)))
 
 -- ---- a place where the member begins
 

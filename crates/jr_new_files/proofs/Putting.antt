@@ -16,8 +16,8 @@ use Rattle.jr_table.specs.Rows.{Row}
 use Rattle.jr_bind.specs.Bounds.{Bound}
 use Rattle.jr_bind.specs.Programs.{Program, IsProgram, AreBound, units_of}
 use Rattle.jr_program_laws.specs.FileParts.{begins}
-use Rattle.jr_images.specs.Images.{Renaming}
-use Rattle.jr_images.specs.Spelling.{spelling}
+use Rattle.jr_new_words.specs.Mappings.{Mapping}
+use Rattle.jr_new_words.specs.Spelled.{spelling}
 use Rattle.jr_new_bodies.specs.declared.outputs.Output as raw
 use Rattle.jr_new_bodies.specs.OutputView.{gathered}
 use Rattle.jr_new_bodies.specs.Effects.{Effect, no_effect, both}
@@ -30,7 +30,7 @@ use Rattle.jr_new_files.proofs.Gathering.{both_nothing, all_join}
 same_effect : (a b : Effect) → Some a ≡ Some b → a ≡ b
 same_effect a b e = cc
 
-module _ (p : Program Span) (g : Renaming) (w : WrittenMember Span) where
+module _ (p : Program Span) (g : Mapping) (w : WrittenMember Span) where
   -- where it is of another file, nothing comes
   other : (file : ℕ) → (w.file ≡ file → ⊥) → (old : List Effect) (e : Effect) → slice_get old file ≡ Some e
       → (d : Effect) × (f : Effect) × (slice_get old file ≡ Some d) × OneGives itself (spelling begins p.rows g (λ (c : Context). p.super_at c.member)) file w f × (e ≡ both d f)
@@ -65,7 +65,7 @@ module _ (p : Program Span) (g : Renaming) (w : WrittenMember Span) where
         ];
   }
 
-module _ (p : Program Span) (g : Renaming) where
+module _ (p : Program Span) (g : Mapping) where
   -- one more member is put
   pub put_next : (ws : List (WrittenMember Span)) (w : WrittenMember Span) (old new : List Effect) → AreSoFar p g ws old → IsPut p g w old new → AreSoFar p g (ws ++ w ∷ []) new
   put_next ws w old new so put = record {

@@ -8,22 +8,27 @@ use Rattle.jr_text.specs.declared.spans.Span.{Span}
 use Rattle.jr_table.specs.Keys.{ClassKey, FieldKey, MethodKey}
 use Rattle.jr_table.specs.Decls.{MemberKey, LocalKey, Decl, class_decl, field_decl, method_decl, constructor_decl, local_decl}
 use Rattle.jr_table.specs.SameDecls.{same_decl, decl_decides}
+use Rattle.jr_table.specs.Rows.{Row}
 use Rattle.jr_table.specs.Context.{Context}
 use Rattle.jr_table.specs.Errors.{Part, class_part, member_part}
 use Rattle.jr_members.specs.WrittenMembers.{WrittenMember}
 use Rattle.jr_bind.specs.Programs.{Program}
 use Rattle.jr_program_laws.specs.FileParts.{begins}
 use Rattle.jr_grammar.specs.Layout.{itself}
-use Rattle.jr_images.specs.Images.{Renaming}
-use Rattle.jr_images.specs.Spelling.{spelling}
+use Rattle.jr_images.specs.Images.{Renaming, rows_to}
+use Rattle.jr_images.specs.Spelling as rename
+use Rattle.jr_new_words.specs.Mappings.{KeyMapping, same_keys, renamed, Mapping, HaveImages}
+use Rattle.jr_new_words.specs.Spelled.{spelling}
 use Rattle.jr_new_bodies.specs.Effects.{Effect, no_effect}
 use Rattle.jr_new_files.specs.Files.{PartGives, OneGives}
 use Rattle.jr_mentions.specs.Apart.{is_among, IsOther}
 use Rattle.jr_new_files.specs.Spared.{IsSpared, IsKeyed}
 use Rattle.jr_new_files.specs.PartLaws.{HasHeadKey}
 use Rattle.jr_new_files.specs.FileEffects.{IsPut}
-use Rattle.jr_new_files.specs.Unaffected.{IsAmong, AreAmong, AreAvoidable, IsOfOther}
+use Rattle.jr_new_files.specs.Unaffected.{IsAmong, AreAmong, AreAvoidable, IsUnaffectedBy, IsUnaffected, IsOfOther}
+use Rattle.jr_new_files.specs.declared.unaffected.Unaffected as raw
 use Rattle.jr_new_files.proofs.Gathering.{both_nothing}
+use Rattle.jr_new_files.proofs.Mapped.{with_keys, as_mapping}
 
 not_same : (d x : Decl) → (d ≡ x → ⊥) → same_decl d x ≡ false
 not_same d x other = false_from_ne_true (same_decl d x) (λ t. other ((decl_decides d x).0 t))
@@ -99,8 +104,19 @@ pub is_keyed : (k : MemberKey) (part : Part Span) → HasHeadKey k part → IsKe
 is_keyed k (class_part c) h = h
 is_keyed k (member_part x) h = tt
 
+-- where a rename gives nothing for a member, its mapping doesn't
+module _ (p : Program Span) (w : WrittenMember Span) (new : List Row) (u : raw.Unaffected) where
+  abbrev super_at : Context → ℕ
+  super_at c = p.super_at c.member
+
+  pub nothing_by : (x : KeyMapping) → HaveImages x p.rows new → IsUnaffected x p.rows u
+      → ((g : Renaming) → new ≡ rows_to g p.rows → IsUnaffectedBy p.rows g u → PartGives itself (rename.spelling begins p.rows g super_at) w.key w.base w.part no_effect)
+      → PartGives itself (spelling begins p.rows (with_keys x new) super_at) w.key w.base w.part no_effect
+  nothing_by same_keys images un gives = absurd un
+  nothing_by (renamed g) images un gives = as_mapping p.rows g new super_at (λ C. PartGives itself C w.key w.base w.part no_effect) (gives g images un)
+
 -- a member that gives nothing leaves what is gathered
-pub put_nothing : (p : Program Span) (g : Renaming) (w : WrittenMember Span) → PartGives itself (spelling begins p.rows g (λ (c : Context). p.super_at c.member)) w.key w.base w.part no_effect
+pub put_nothing : (p : Program Span) (g : Mapping) (w : WrittenMember Span) → PartGives itself (spelling begins p.rows g (λ (c : Context). p.super_at c.member)) w.key w.base w.part no_effect
     → (es : List Effect) → IsPut p g w es es
 put_nothing p g w gives es = record { as_many = refl; each = λ file e s. (e, no_effect, s, of file (cases_Bool (w.file == file)), sym (both_nothing e)) }
   where

@@ -7,7 +7,6 @@ use Rattle.std.proofs.lemmas.List.Elements.{All-cons}
 use Rattle.std.proofs.lemmas.Option.{slice_get-map}
 use Rattle.jr_text.specs.declared.spans.Span.{Span}
 use Rattle.jr_text.specs.Edits.{Entry}
-use Rattle.jr_lex.specs.Replacing.{IsName}
 use Rattle.jr_ast.specs.MemberTree as syntax
 use Rattle.jr_grammar.specs.Reads.{Reads, ReadsWithSpans}
 use Rattle.jr_table.specs.Context.{Context}
@@ -18,13 +17,15 @@ use Rattle.jr_rewrite.specs.Respellings.{Loss}
 use Rattle.jr_rewrite.specs.Rewritten.{Rewritten}
 use Rattle.jr_rewrite.specs.Rewrites.{RewritesUnit, RewritesUnits}
 use Rattle.jr_rewrite.specs.Edited.{entries_of, AreInOrder}
+use Rattle.jr_rewrite.proofs.Rewriting.{rewritten_reads}
 use Rattle.jr_new_words.specs.declared.choices.Lost as raw
 use Rattle.jr_new_words.specs.ChoiceView.{lost_of}
-use Rattle.jr_images.specs.Images.{Renaming}
-use Rattle.jr_images.specs.Spelling.{spelling}
+use Rattle.jr_new_words.specs.Mappings.{Mapping, images_of, region_of}
+use Rattle.jr_new_words.specs.Spelled.{spelling}
 use Rattle.jr_images.specs.Refusals as refusals
 use Rattle.jr_images.specs.RenameLaws.{KeepsAll}
-use Rattle.jr_images.specs.TextLaws.{AreNamed, RenamedTextsRead}
+use Rattle.jr_images.specs.NamedImages.{AreNamedImages}
+use Rattle.jr_images.proofs.SuitableSpelling.{choosing_suits}
 use Rattle.jr_images.proofs.Imaging.{map_some}
 use Rattle.jr_new_bodies.specs.Effects.{Effect, effect_of}
 use Rattle.jr_new_files.specs.FileLaws.{AreGathered, AreRewritten}
@@ -113,7 +114,7 @@ module _ {T : Type 0} (os : List (Rewritten T)) (es : List Effect) (same : map (
             | inr more ↦ ltb-false i file more
           ]
 
-module _ (p : Program Span) (g : Renaming) where
+module _ (p : Program Span) (g : Mapping) where
   pub gathered_all : (es : List Effect) → AreSoFar p g (members_of p) es → AreGathered itself p.rows p.super_at (units_of p) g es
   gathered_all es so = record { one_each = so.as_many ∙ sym (length-map p.files (λ (f : File Span). f.unit)); each = so.each }
 
@@ -140,13 +141,13 @@ module _ (p : Program Span) (g : Renaming) where
   reads_plainly h file unit e = let r = reads_there h file unit e in (r.0, record { items = r.1.items; lexes = r.1.lexes; is = r.1.is })
 
   -- the changes of each file are in order
-  pub in_order : RenamedTextsRead Span → AreNamed p.rows → IsName g.name → ((file : ℕ) (unit : syntax.Unit Span) → slice_get (units_of p) file ≡ Some unit → (bytes : List ℕ) × ReadsWithSpans itself bytes unit)
+  pub in_order : AreNamedImages p.rows (images_of p.rows g) → ((file : ℕ) (unit : syntax.Unit Span) → slice_get (units_of p) file ≡ Some unit → (bytes : List ℕ) × ReadsWithSpans itself bytes unit)
       → (es : List Effect) → AreRewritten itself p.rows p.super_at (units_of p) g es → AllInOrder es
-  in_order law named name reads es w i e s =
+  in_order named reads es w i e s =
       let o = file_of w.files es w.effects i e s in
       let u = each_unit (declarations_of begins (units_of p)) (units_of p) w.files w.are i o.0 o.1 in
       let r = reads i u.0 u.1 in
-      subst (λ (x : Effect). AreInOrder 0 x.changes) o.2 (law itself p.rows g (λ (c : Context). p.super_at c.member) (declarations_of begins (units_of p)) r.0 u.0 o.0 named name r.1 u.2).in_order
+      subst (λ (x : Effect). AreInOrder 0 x.changes) o.2 (rewritten_reads itself (spelling begins p.rows g (λ (c : Context). p.super_at c.member)) (choosing_suits begins p.rows (region_of p.rows g) named (λ (c : Context). p.super_at c.member)) (declarations_of begins (units_of p)) r.0 u.0 o.0 r.1 u.2).in_order
 
   pub rewriting : (es : List Effect) (edits : List (List Entry)) (respelled : ℕ) (lost : Option (ℕ × Loss)) → AreRewritten itself p.rows p.super_at (units_of p) g es
       → edits ≡ map (λ (e : Effect). entries_of e.changes) es → respelled ≡ sum_by (λ (e : Effect). e.respelled) es → (lost ≡ None → LoseNothing es) → ((file : ℕ) (l : Loss) → lost ≡ Some (file, l) → IsFirstLoss es file l)

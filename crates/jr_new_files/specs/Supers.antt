@@ -2,10 +2,9 @@
 use Rattle.std.specs.Prelude.{◌≡◌, ℕ, List, Some, Bool, true, false}
 use Rattle.jr_text.specs.declared.spans.Span.{Span}
 use Rattle.jr_ast.specs.Tree as tree
-use Rattle.jr_table.specs.Context.{Context}
 use Rattle.jr_program_laws.specs.FileParts.{begins}
 use Rattle.jr_rewrite.specs.Respellings.{Choice, stays, becomes, loses}
-use Rattle.jr_rewrite.specs.Rewrites.{RewritesSuper}
+use Rattle.jr_rewrite.specs.Rewrites.{TransformsSuper}
 use Rattle.jr_new_words.specs.Spelled.{SuperCtorSpells}
 use Rattle.jr_new_bodies.specs.Effects.{Effect, both, Gathers}
 use Rattle.jr_new_bodies.specs.OutputView.{lost}
@@ -18,7 +17,8 @@ use Rattle.jr_new_bodies.specs.Known.{
   TypesRow,
   SuperCtorIsBound,
 }
-use Rattle.jr_new_bodies.specs.Walks.{choosing}
+use Rattle.jr_new_bodies.specs.Spotting.{Unseen}
+use Rattle.jr_new_bodies.specs.Walks.{choosing, spotted}
 use Rattle.jr_grammar.specs.Layout.{itself}
 use Rattle.jr_new_files.specs.Ready.{Anywhere}
 
@@ -44,6 +44,6 @@ WrittenReady h path first at args = RowReady itself Anywhere h path first at arg
 
 abbrev pub WrittenGathers : raw.Here → (super_at at : ℕ) → tree.Exps Span → (old new : Effect)
     → Type 0
-WrittenGathers h n at args old new = (s : Context → ℕ) → s (context_of h) ≡ n
-    → Gathers (RewritesSuper itself (choosing itself h s) (context_of h) at (Some args))
-    old new
+WrittenGathers h n at args old new = (u : Unseen Span) → u.super_at (context_of h) ≡ n
+    → Gathers (TransformsSuper itself (choosing itself h u.super_at) (spotted itself h u)
+    (context_of h) at (Some args)) old new

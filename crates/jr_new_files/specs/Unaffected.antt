@@ -18,6 +18,7 @@ use Rattle.jr_mentions.specs.ApartView.{names_in}
 use Rattle.jr_mentions.specs.Avoids.{AvoidsPart}
 use Rattle.jr_members.specs.WrittenMembers.{WrittenMember}
 use Rattle.jr_images.specs.Images.{Renaming, rows_to}
+use Rattle.jr_new_words.specs.Mappings.{KeyMapping, same_keys, renamed}
 use Rattle.jr_new_files.specs.declared.unaffected.Unaffected as raw
 
 -- a field or a method of one of the names
@@ -44,6 +45,11 @@ local_in u = option_map (λ k. local_key_of k.now) u.local
 pub record IsUnaffectedBy (rows : List Row) (g : Renaming) (u : raw.Unaffected) : Type 0 where
   pub apart : AreApart (names_in u.names) rows (rows_to g rows)
   pub avoidable : AreAvoidable (names_in u.names) (local_in u) g.decls
+
+-- a rename does that
+abbrev pub IsUnaffected : KeyMapping → List Row → raw.Unaffected → Type 0
+IsUnaffected same_keys rows u = ⊥
+IsUnaffected (renamed g) rows u = IsUnaffectedBy rows g u
 
 -- the local, if it is one, is of another member
 abbrev pub IsOfOther : Option LocalKey → MemberKey → Type 0

@@ -13,6 +13,8 @@ use Rattle.jr_new_words.specs.MappingView.{mapping_in}
 use Rattle.jr_new_words.specs.Scopes.{AreTables}
 use Rattle.jr_new_bodies.specs.declared.here.Here as raw_here
 use Rattle.jr_new_bodies.specs.Known as here
+use Rattle.jr_new_bodies.specs.Spotting.{no_spots}
+use Rattle.jr_new_bodies.specs.SpotView.{spotting_of}
 use Rattle.jr_new_files.specs.declared.beginnings.Walked as raw
 
 abbrev pub key_of : raw.Walked → MemberKey
@@ -35,6 +37,7 @@ pub record Begins (w : raw.Walked) (h : raw_here.Here) (c : Context) : Type 0 wh
   pub mapping : here.mapping_of h ≡ mapping_of w
   pub bound : h.bound.now ≡ w.bound.now
   pub from_is : h.from ≡ w.from
+  pub spots : spotting_of h.spots ≡ no_spots
 
 -- ---- parameters in scope, from this number on: exact
 

@@ -10,7 +10,7 @@ ghost use Rattle.jr_new_files.specs.Walking.{key_of, CanWalk, Begins, held_param
 
 use jr_ast::{Param, Path};
 use jr_bind::Bound;
-use jr_new_bodies::{Here, next};
+use jr_new_bodies::{Here, Spots, next};
 use jr_new_words::{Scopes, Tables};
 use jr_scopes::{Held, HeldType};
 use jr_table::{MemberKey, Ty};
@@ -50,6 +50,7 @@ pub(crate) fn plain_here<'a>(
         scopes,
         bound: of.bound,
         from: of.from,
+        spots: Spots::Nowhere,
     })
 }
 
@@ -124,6 +125,7 @@ pub(crate) fn here_with<'a>(
             scopes,
             bound: of.bound,
             from: of.from,
+            spots: Spots::Nowhere,
         }),
         Err(error) => {
             forget(scopes);

@@ -3,9 +3,10 @@ ghost use Rattle.std.specs.Prelude.{◌≡◌, ℕ, List, Some, IfOk, IfSome, On
 ghost use Rattle.std.specs.Prelude.{slice_get, option_map};
 ghost use Rattle.jr_members.specs.PartView.{written_of};
 ghost use Rattle.jr_new_bodies.specs.Effects.{Effect, no_effect};
-ghost use Rattle.jr_new_words.specs.Scopes.{rows_in, renaming_in, AreImages};
+ghost use Rattle.jr_new_words.specs.MappingView.{keys_of, mapping_in};
+ghost use Rattle.jr_new_words.specs.Scopes.{AreTables};
 ghost use Rattle.jr_new_files.specs.FileEffects.{effects_of, members_of, IsPut, AreNext, AreSoFar};
-ghost use Rattle.jr_new_files.specs.Unaffected.{IsUnaffectedBy, AvoidsAll};
+ghost use Rattle.jr_new_files.specs.Unaffected.{IsUnaffected, AvoidsAll};
 
 use crate::part_laws::written_members_are_sound;
 use crate::parts::part;
@@ -16,7 +17,7 @@ use jr_images::rows_are_named;
 use jr_members::WrittenMember;
 use jr_mentions::apart_look_alike;
 use jr_new_bodies::{Output, new_output};
-use jr_new_words::Programs;
+use jr_new_words::Tables;
 use jr_text::Span;
 use std::alloc::{AllocError, Global};
 
@@ -36,24 +37,24 @@ fn empty_outputs(alloc: Global, count: u32) -> Result<Vec<Output>, AllocError>
 // A member that avoids all that a rename changes gives nothing. Nothing is run by it.
 fn avoiding_gives_nothing<V: View<Span>>(
     view: &V,
-    programs: &Programs<'_>,
+    tables: &Tables<'_>,
     unaffected: &Unaffected<'_>,
     number: u32,
     of: &WrittenMember<'_, Span>,
 )
-    requires rows { rows_in programs.now ≡ (V.program view.now).rows }
-    requires images { AreImages programs.now }
-    requires unaffected { IsUnaffectedBy (rows_in programs.now) (renaming_in programs.now)
+    requires rows { tables.now.before.now ≡ (V.program view.now).rows }
+    requires images { AreTables tables.now }
+    requires unaffected { IsUnaffected (keys_of tables.now.keys) tables.now.before.now
         unaffected.now }
     requires number { slice_get (members_of (V.program view.now)) number
         ≡ Some (written_of of.now) }
     requires avoids { AvoidsAll unaffected.now (written_of of.now) }
-    ensures { (es : List Effect) → IsPut (V.program view.now) (renaming_in programs.now)
+    ensures { (es : List Effect) → IsPut (V.program view.now) (mapping_in tables.now)
         (written_of of.now) es es }
 {
     view.keeps_program();
-    programs.before.keeps_rows();
-    programs.after.keeps_rows();
+    tables.before.keeps_rows();
+    tables.after.keeps_rows();
     rows_are_named::<Span>();
     written_members_are_sound();
     apart_look_alike();
@@ -64,22 +65,22 @@ fn avoiding_gives_nothing<V: View<Span>>(
 fn put_member<V: View<Span>>(
     alloc: Global,
     view: &V,
-    programs: &Programs<'_>,
+    tables: &Tables<'_>,
     number: u32,
     of: &WrittenMember<'_, Span>,
     outputs: &mut Vec<Output>,
 ) -> Result<(), AllocError>
-    requires rows { rows_in programs.now ≡ (V.program view.now).rows }
-    requires images { AreImages programs.now }
+    requires rows { tables.now.before.now ≡ (V.program view.now).rows }
+    requires images { AreTables tables.now }
     requires number { slice_get (members_of (V.program view.now)) number
         ≡ Some (written_of of.now) }
-    ensures { OnOk result (IsPut (V.program view.now) (renaming_in programs.now)
+    ensures { OnOk result (IsPut (V.program view.now) (mapping_in tables.now)
         (written_of of.now) (effects_of outputs.old.items) (effects_of outputs.new.items)) }
 {
     let file = of.file as usize;
     if file < outputs.len() {
         let out = &mut outputs[file];
-        part(alloc, view, programs, number, of, out)?;
+        part(alloc, view, tables, number, of, out)?;
     }
     Ok(())
 }
@@ -97,51 +98,51 @@ fn member_at<'m, 'a>(
 fn put_affected<V: View<Span>>(
     alloc: Global,
     view: &V,
-    programs: &Programs<'_>,
+    tables: &Tables<'_>,
     unaffected: &Option<Unaffected<'_>>,
     number: u32,
     of: &WrittenMember<'_, Span>,
     outputs: &mut Vec<Output>,
 ) -> Result<(), AllocError>
-    requires rows { rows_in programs.now ≡ (V.program view.now).rows }
-    requires images { AreImages programs.now }
-    requires unaffected { IfSome unaffected.now (IsUnaffectedBy (rows_in programs.now)
-        (renaming_in programs.now)) }
+    requires rows { tables.now.before.now ≡ (V.program view.now).rows }
+    requires images { AreTables tables.now }
+    requires unaffected { IfSome unaffected.now (IsUnaffected (keys_of tables.now.keys)
+        tables.now.before.now) }
     requires number { slice_get (members_of (V.program view.now)) number
         ≡ Some (written_of of.now) }
-    ensures { OnOk result (IsPut (V.program view.now) (renaming_in programs.now)
+    ensures { OnOk result (IsPut (V.program view.now) (mapping_in tables.now)
         (written_of of.now) (effects_of outputs.old.items) (effects_of outputs.new.items)) }
 {
     if let Some(unaffected) = unaffected {
         if unaffected.spares(of) {
-            avoiding_gives_nothing(view, programs, unaffected, number, of);
+            avoiding_gives_nothing(view, tables, unaffected, number, of);
             return Ok(());
         }
     }
-    put_member(alloc, view, programs, number, of, outputs)
+    put_member(alloc, view, tables, number, of, outputs)
 }
 
 /// The same of the member of a number, if there is one.
 fn put_numbered<V: View<Span>>(
     alloc: Global,
     view: &V,
-    programs: &Programs<'_>,
+    tables: &Tables<'_>,
     unaffected: &Option<Unaffected<'_>>,
     members: &[WrittenMember<'_, Span>],
     number: u32,
     outputs: &mut Vec<Output>,
 ) -> Result<(), AllocError>
-    requires rows { rows_in programs.now ≡ (V.program view.now).rows }
-    requires images { AreImages programs.now }
-    requires unaffected { IfSome unaffected.now (IsUnaffectedBy (rows_in programs.now)
-        (renaming_in programs.now)) }
+    requires rows { tables.now.before.now ≡ (V.program view.now).rows }
+    requires images { AreTables tables.now }
+    requires unaffected { IfSome unaffected.now (IsUnaffected (keys_of tables.now.keys)
+        tables.now.before.now) }
     requires members { map written_of members.now ≡ members_of (V.program view.now) }
-    ensures { OnOk result (AreNext (V.program view.now) (renaming_in programs.now)
+    ensures { OnOk result (AreNext (V.program view.now) (mapping_in tables.now)
         number (effects_of outputs.old.items) (effects_of outputs.new.items)) }
 {
     match member_at(members, number) {
         None => Ok(()),
-        Some(of) => put_affected(alloc, view, programs, unaffected, number, of, outputs),
+        Some(of) => put_affected(alloc, view, tables, unaffected, number, of, outputs),
     }
 }
 
@@ -149,23 +150,23 @@ fn put_numbered<V: View<Span>>(
 pub(crate) fn all_outputs<V: View<Span>>(
     alloc: Global,
     view: &V,
-    programs: &Programs<'_>,
+    tables: &Tables<'_>,
     members: &[WrittenMember<'_, Span>],
 ) -> Result<Vec<Output>, AllocError>
-    requires rows { rows_in programs.now ≡ (V.program view.now).rows }
-    requires images { AreImages programs.now }
+    requires rows { tables.now.before.now ≡ (V.program view.now).rows }
+    requires images { AreTables tables.now }
     requires members { map written_of members.now ≡ members_of (V.program view.now) }
-    ensures { IfOk result (λ os. AreSoFar (V.program view.now) (renaming_in programs.now)
+    ensures { IfOk result (λ os. AreSoFar (V.program view.now) (mapping_in tables.now)
         (members_of (V.program view.now)) (effects_of os.items)) }
 {
     view.keeps_program();
-    let unaffected = Unaffected::new(programs);
+    let unaffected = Unaffected::new(tables);
     let mut outputs = empty_outputs(alloc, view.file_count())?;
     for number in 0..view.bound_count() {
         put_numbered(
             alloc,
             view,
-            programs,
+            tables,
             &unaffected,
             members,
             number,

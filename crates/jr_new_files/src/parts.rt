@@ -4,7 +4,8 @@ ghost use Rattle.jr_members.specs.PartView.{part_of, written_of};
 ghost use Rattle.jr_members.specs.WrittenMembers.{written_members};
 ghost use Rattle.jr_bind.specs.Programs.{units_of};
 ghost use Rattle.jr_program_laws.specs.FileParts.{begins};
-ghost use Rattle.jr_new_words.specs.Scopes.{rows_in, renaming_in, AreImages};
+ghost use Rattle.jr_new_words.specs.MappingView.{mapping_in};
+ghost use Rattle.jr_new_words.specs.Scopes.{AreTables};
 ghost use Rattle.jr_new_bodies.specs.OutputView.{gathered};
 ghost use Rattle.jr_new_files.specs.Walking.{key_of, rows_of, mapping_of, CanWalk};
 ghost use Rattle.jr_new_files.specs.Ready as ready;
@@ -17,7 +18,7 @@ use crate::members::member;
 use jr_bind::{Bound, View};
 use jr_members::{PartRef, WrittenMember, members_are_written};
 use jr_new_bodies::Output;
-use jr_new_words::{Programs, tables_of};
+use jr_new_words::Tables;
 use jr_program::first_byte;
 use jr_program_laws::{declared_types_are_found, parts_are_placed};
 use jr_table::lookups_are_exact;
@@ -47,24 +48,24 @@ fn walk<'a, V: View<Span>>(
     }
 }
 
-/// What the written member of a number gives under a rename: what changes in the text of its file,
-/// how many references are respelled, and those that are lost. It is added to what is gathered.
+/// What the written member of a number gives: what changes in the text of its file, how many
+/// references are respelled, and those that are lost. It is added to what is gathered.
 ///
-/// `programs` are the program and the one with the images of its rows. An `Err` wants memory; what
-/// was gathered is of no use then.
+/// `tables` are those of the program and of what becomes of it. An `Err` wants memory; what was
+/// gathered is of no use then.
 pub(crate) fn part<V: View<Span>>(
     alloc: Global,
     view: &V,
-    programs: &Programs<'_>,
+    tables: &Tables<'_>,
     number: u32,
     of: &WrittenMember<'_, Span>,
     out: &mut Output,
 ) -> Result<(), AllocError>
-    requires rows { rows_in programs.now ≡ (V.program view.now).rows }
-    requires images { AreImages programs.now }
+    requires rows { tables.now.before.now ≡ (V.program view.now).rows }
+    requires images { AreTables tables.now }
     requires number { slice_get (written_members begins (V.program view.now).rows
         (units_of (V.program view.now))) number ≡ Some (written_of of.now) }
-    ensures { IfOk result (λ _. PartAdds (V.program view.now) (renaming_in programs.now)
+    ensures { IfOk result (λ _. PartAdds (V.program view.now) (mapping_in tables.now)
         (written_of of.now) (gathered out.old) (gathered out.new)) }
 {
     view.keeps_program();
@@ -73,7 +74,7 @@ pub(crate) fn part<V: View<Span>>(
     lookups_are_exact();
     declared_types_are_found::<Span>();
     let walked = Walked {
-        programs: tables_of(programs),
+        programs: *tables,
         key: &of.key,
         bound: view.bound(number),
         from: first_byte(&of.part),

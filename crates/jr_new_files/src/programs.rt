@@ -1,28 +1,28 @@
-//! A rename over a whole program.
+//! A whole program, rewritten.
 ghost use Rattle.std.specs.Prelude.{◌≡◌, ◌+◌, IfOk, map, sum_by, option_map};
-ghost use Rattle.jr_lex.specs.Replacing.{IsName};
 ghost use Rattle.jr_members.specs.PartView.{written_of};
 ghost use Rattle.jr_rewrite.specs.Edited.{entries_of};
 ghost use Rattle.jr_new_words.specs.ChoiceView.{lost_of};
-ghost use Rattle.jr_new_words.specs.Scopes.{rows_in, renaming_in, AreImages};
+ghost use Rattle.jr_new_words.specs.MappingView.{keys_of, mapping_in};
+ghost use Rattle.jr_new_words.specs.Scopes.{AreTables};
 ghost use Rattle.jr_new_bodies.specs.Effects.{Effect};
 ghost use Rattle.jr_new_files.specs.FileEffects.{effects_of, members_of, AllInOrder};
-ghost use Rattle.jr_new_files.specs.Rewritings.{IsRewriting};
+ghost use Rattle.jr_new_files.specs.Rewritings.{GivesName, IsRewriting};
 
 use crate::file_laws::files_are_rewritten;
 use crate::files::all_outputs;
 use crate::losses::first_lost;
 use jr_bind::View;
-use jr_images::{renamed_texts_read, rows_are_named};
+use jr_images::rows_are_named;
 use jr_members::WrittenMember;
 use jr_new_bodies::Output;
-use jr_new_words::{Lost, Programs};
+use jr_new_words::{Lost, Tables};
 use jr_rewrite::edits;
 use jr_text::{EditList, Span};
 use std::alloc::{AllocError, Global};
 
-/// A rename of a program: what changes in the text of each file, how many references are respelled,
-/// and the first that is lost, with its file.
+/// What becomes of a program: what changes in the text of each file, how many references are
+/// respelled, and the first that is lost, with its file.
 #[derive(Drop)]
 pub struct Rewriting {
     pub edits: Vec<EditList>,
@@ -69,26 +69,25 @@ fn all_respelled(outputs: &[Output]) -> Result<u32, AllocError>
     Ok(all)
 }
 
-/// The program under a rename: the files are rewritten by their written members, each walked once.
-/// These are given.
+/// The program as these tables say: the files are rewritten by their written members, each walked
+/// once. These are given.
 pub fn rewrite<V: View<Span>>(
     alloc: Global,
     view: &V,
     members: &[WrittenMember<'_, Span>],
-    programs: &Programs<'_>,
+    tables: &Tables<'_>,
 ) -> Result<Rewriting, AllocError>
     requires members { map written_of members.now ≡ members_of (V.program view.now) }
-    requires rows { rows_in programs.now ≡ (V.program view.now).rows }
-    requires images { AreImages programs.now }
-    requires name { IsName (renaming_in programs.now).name }
-    ensures { IfOk result (λ r. IsRewriting (V.program view.now) (renaming_in programs.now)
+    requires rows { tables.now.before.now ≡ (V.program view.now).rows }
+    requires images { AreTables tables.now }
+    requires name { GivesName (keys_of tables.now.keys) }
+    ensures { IfOk result (λ r. IsRewriting (V.program view.now) (mapping_in tables.now)
         r.edits.items r.respelled (option_map (λ l. (l.0, lost_of l.1)) r.lost)) }
 {
     view.keeps_program();
     files_are_rewritten::<Span>();
     rows_are_named::<Span>();
-    renamed_texts_read::<Span>();
-    let outputs = all_outputs(alloc, view, programs, members)?;
+    let outputs = all_outputs(alloc, view, tables, members)?;
     let lists = all_edits(alloc, outputs.as_slice())?;
     let respelled = all_respelled(outputs.as_slice())?;
     Ok(Rewriting {

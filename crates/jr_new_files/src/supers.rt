@@ -42,6 +42,25 @@ fn forget(choice: Choice) {
     drop(choice);
 }
 
+/// The constructor of a written `super(..)` whose word stands there, if it is lost.
+fn lost_at(
+    alloc: Global,
+    here: &Here<'_>,
+    path: &Path,
+    first: u32,
+    at: u32,
+    args: &[Expr<Span>],
+    out: &mut Output,
+) -> Result<(), AllocError>
+    requires known { IsKnown here.now }
+    requires ready { pure.CallReady here.now path.now.steps.items first (exprs_of args.now) }
+    ensures { IfOk result (λ _. pure.CallGathers here.now at (exprs_of args.now) (gathered out.old)
+        (gathered out.new)) }
+{
+    let choice = super_ctor_choice(alloc, here, path, first, at, args)?;
+    keep_loss(choice, out)
+}
+
 /// A constructor that is lost: the place is that of the word `super`, which no tree keeps.
 fn lost_super<V: View<Span>>(
     alloc: Global,
@@ -61,8 +80,7 @@ fn lost_super<V: View<Span>>(
         → pure.CallGathers here.now n (exprs_of args.now) (gathered out.old) (gathered out.new)) }
 {
     let at = super_at(view, file, span);
-    let choice = super_ctor_choice(alloc, here, path, first, at, args)?;
-    keep_loss(choice, out)
+    lost_at(alloc, here, path, first, at, args, out)
 }
 
 /// The constructor of a written `super(..)`: it has no word that could change, and may be lost.

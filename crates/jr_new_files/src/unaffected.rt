@@ -5,13 +5,17 @@ ghost use Rattle.jr_table.specs.KeyView.{decl_of, local_key_of, member_key_of};
 ghost use Rattle.jr_members.specs.PartView.{part_of, written_of};
 ghost use Rattle.jr_mentions.specs.ApartView.{names_in};
 ghost use Rattle.jr_mentions.specs.Avoids.{AvoidsPart};
-ghost use Rattle.jr_new_words.specs.Scopes.{rows_in, renaming_in, AreImages};
+ghost use Rattle.jr_images.specs.Images.{rows_to};
+ghost use Rattle.jr_images.specs.ImageView.{renaming_of};
+ghost use Rattle.jr_new_words.specs.MappingView.{keys_of};
+ghost use Rattle.jr_new_words.specs.Scopes.{AreTables};
 ghost use Rattle.jr_new_files.specs.Unaffected as pure;
 
+use jr_images::NewName;
 use jr_members::{PartRef, WrittenMember};
 use jr_mentions::{Apart, apart};
-use jr_new_words::Programs;
-use jr_table::{Decl, LocalKey, MemberKey};
+use jr_new_words::{KeyMapping, Tables};
+use jr_table::{Decl, LocalKey, MemberKey, Table};
 use jr_text::Span;
 
 /// What a written member has to avoid so that a rename leaves it as it is: the names by which the
@@ -99,14 +103,27 @@ fn unaffected_by<'a>(names: Apart<'a>, decls: &'a [Decl]) -> Option<Unaffected<'
 
 impl<'a> Unaffected<'a> {
     /// What a member has to avoid under this rename. None where that isn't told by names.
-    pub(crate) fn new(programs: &Programs<'a>) -> Option<Unaffected<'a>>
-        requires { AreImages programs.now }
-        ensures { IfSome result (pure.IsUnaffectedBy (rows_in programs.now)
-            (renaming_in programs.now)) }
+    fn of_rename(before: &'a Table, after: &'a Table, name: &'a NewName) -> Option<Unaffected<'a>>
+        requires { after.now ≡ rows_to (renaming_of name.now) before.now }
+        ensures { IfSome result (pure.IsUnaffectedBy before.now (renaming_of name.now)) }
     {
-        match apart(programs.before, programs.after) {
+        match apart(before, after) {
             None => None,
-            Some(names) => unaffected_by(names, programs.name.decls.as_slice()),
+            Some(names) => unaffected_by(names, name.decls.as_slice()),
+        }
+    }
+
+    /// What a member has to avoid so that it is left as it is. None where that isn't told by names.
+    pub(crate) fn new(tables: &Tables<'a>) -> Option<Unaffected<'a>>
+        requires { AreTables tables.now }
+        ensures { IfSome result (pure.IsUnaffected (keys_of tables.now.keys)
+            tables.now.before.now) }
+    {
+        match tables.keys {
+            KeyMapping::Same => None,
+            KeyMapping::Renamed(name) => {
+                Unaffected::of_rename(tables.before, tables.after, name)
+            }
         }
     }
 

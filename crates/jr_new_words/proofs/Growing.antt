@@ -219,7 +219,7 @@ module _ (x : KeyMapping) (k : MemberKey) (q r : Renumbering) (ls : List Local) 
       let F = λ (l : Local). if_kept x (renumber q l.key.number) l in
       let G = λ (l : Local). if_kept x (renumber r l.key.number) l in
       let M = map (made_local (member_by x k)) r.made in
-      let same : F ≡ G = λ i l. if_kept x (renumber (record { firsts = firsts i; next = next i; made = q.made; depth = q.depth }) l.key.number) l in
+      let same : F ≡ G = λ i l. if_kept x (renumber (record { firsts = firsts i; next = next i; made = q.made; depth = q.depth; gone = q.gone }) l.key.number) l in
       let old : locals_by x (renumbered q) k ls ≡ flat_map F ls =
       (λ i. flat_map F (take q.depth ls) ++ (map (made_local (member_by x k)) (none i) ++ flat_map F (drop q.depth ls)))
       ∙ sym (flat_map-append F (take q.depth ls) (drop q.depth ls)) ∙ ap (flat_map F) (take-append-drop q.depth ls) in

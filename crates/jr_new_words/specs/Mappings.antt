@@ -26,7 +26,10 @@ use Rattle.std.specs.Prelude.{
   unwrap_or,
   flat_map,
   slice_get,
+  nat_eq,
+  if◌then◌else◌,
 }
+use Rattle.jr_ast.specs.Tree as tree
 use Rattle.jr_table.specs.Keys.{
   ClassKey,
   FieldKey,
@@ -51,7 +54,7 @@ use Rattle.jr_table.specs.Decls.{
 }
 use Rattle.jr_table.specs.Rows.{Row}
 use Rattle.jr_table.specs.Entries.{class_of_member, IsRowOf}
-use Rattle.jr_table.specs.Scope.{Scope, ScopeLocal}
+use Rattle.jr_table.specs.Scope.{Scope, ScopeLocal, last_named}
 use Rattle.jr_table.specs.Lookup.{decl_at}
 use Rattle.jr_table.specs.Context.{Context, Local, IsLocalType, known, scope_of}
 use Rattle.jr_images.specs.Images as renaming
@@ -128,6 +131,11 @@ pub record MadeLocal : Type 0 where
   pub number : ℕ
   pub type : Ty
 
+-- one that is gone, with an old type of which what stands now at its reads has the image
+pub record GoneLocal : Type 0 where
+  pub number : ℕ
+  pub type : Ty
+
 pub record Renumbering : Type 0 where
   -- the new numbers of the first ones, and none of one that is gone
   pub firsts : List (Option ℕ)
@@ -136,6 +144,8 @@ pub record Renumbering : Type 0 where
   -- these are made, and stand behind so many of the old place
   pub made : List MadeLocal
   pub depth : ℕ
+  -- at the reads of this one something else stands
+  pub gone : Option GoneLocal
 
 pub data LocalMapping : Type 0 where
   all_stay : LocalMapping
@@ -199,6 +209,44 @@ abbrev pub seen_locals_by : KeyMapping → LocalMapping → MemberKey → List L
 seen_locals_by x all_stay k ls = map (seen_image x) ls
 seen_locals_by x (renumbered r) k ls = map seen_local (locals_by x (renumbered r) k ls)
 
+-- ---- types of what stands now in the place of an expression
+
+-- The name that the expression reads, in parentheses or not (JLS 15.8.5); an assignment has the type
+-- of what it assigns (JLS 15.26).
+abbrev pub read_name : {A : Type 0} → tree.Exp A → Option (List ℕ)
+read_name (tree.name m w) = Some w.text
+read_name (tree.paren m e) = read_name e
+read_name (tree.assign m e f) = read_name e
+read_name _ = None
+
+abbrev pub gone_in : LocalMapping → Option GoneLocal
+gone_in all_stay = None
+gone_in (renumbered r) = r.gone
+
+-- the old type of what stands at a read of this local, if something else does
+abbrev pub type_for : GoneLocal → Option LocalKey → Option Ty
+type_for g None = None
+type_for g (Some k) = if nat_eq k.number g.number then Some g.type else None
+
+-- and at one of the local that the name finds
+abbrev pub type_read : GoneLocal → Context → Option (List ℕ) → Option Ty
+type_read g c None = None
+type_read g c (Some name) = type_for g (last_named name (scope_of c).locals)
+
+module _ {A : Type 0} where
+  -- the old type of what stands in the place of an expression that had this type
+  abbrev pub type_where : Option GoneLocal → Context → tree.Exp A → Ty → Ty
+  type_where None c e t = t
+  type_where (Some g) c e t = unwrap_or (type_read g c (read_name e)) t
+
+  -- those of what stands in the places of arguments
+  abbrev pub types_where : Option GoneLocal → Context → tree.Exps A → List Ty → List Ty
+  types_where None c es ts = ts
+  types_where (Some g) c tree.end ts = []
+  types_where (Some g) c (tree.more e es) [] = []
+  types_where (Some g) c (tree.more e es) (t ∷ ts) =
+      type_where (Some g) c e t ∷ types_where (Some g) c es ts
+
 -- ---- rows
 
 -- of a rename the images, in the old order
@@ -248,6 +296,13 @@ module _ (m : Mapping) where
   decl_to (method_decl k) = Some (method_decl (method_to k))
   decl_to (constructor_decl k) = Some (constructor_decl (ctor_to k))
   decl_to (local_decl k) = option_map (λ (l : LocalKey). local_decl l) (local_to k)
+
+  -- the types of what stands now in the places of expressions that had types
+  abbrev pub type_now : {A : Type 0} → Context → tree.Exp A → Ty → Ty
+  type_now c e t = type_to (type_where (gone_in m.locals) c e t)
+
+  abbrev pub types_now : {A : Type 0} → Context → tree.Exps A → List Ty → List Ty
+  types_now c es ts = types_to (types_where (gone_in m.locals) c es ts)
 
   -- the rows of the new program
   abbrev pub rows_to : List Row → List Row
@@ -307,8 +362,8 @@ seen_of rows m = record {
 abbrev pub region_of : {A : Type 0} → List Row → Mapping → Region A
 region_of rows m = record {
   seen = seen_of rows m;
-  type_now = λ c e t. type_to m t;
-  types_now = λ c es ts. types_to m ts;
+  type_now = λ c e t. type_now m c e t;
+  types_now = λ c es ts. types_now m c es ts;
   receiver = itself;
 }
 

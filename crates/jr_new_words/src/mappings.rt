@@ -45,6 +45,16 @@ pub fn class_type_to(keys: &KeyMapping<'_>, key: &ClassKey) -> Result<Ty, AllocE
     Ok(Ty::Class(key))
 }
 
+/// The image of a type.
+pub fn type_to(keys: &KeyMapping<'_>, ty: &Ty) -> Result<Ty, AllocError>
+    ensures { IfOk result (λ t. ty_of t ≡ pure.type_by (keys_of keys.now) (ty_of ty.now)) }
+{
+    match *keys {
+        KeyMapping::Same => ty.copy(),
+        KeyMapping::Renamed(name) => jr_images::type_to(name, ty),
+    }
+}
+
 /// The image of a member.
 pub(crate) fn member_to(
     alloc: Global,

@@ -1,8 +1,11 @@
 //! What becomes of the locals of the member that is walked: their new numbers, those that are made
 //! and those that are gone.
-ghost use Rattle.std.specs.Prelude.{◌≡◌, ◌+◌, ◌-◌, ◌≤◌, IfOk, IfSome, Some, length};
+ghost use Rattle.std.specs.Prelude.{◌≡◌, ◌+◌, ◌-◌, ◌≤◌, IfOk, IfSome, Some, length, option_map};
+ghost use Rattle.jr_table.specs.Decls.{MemberKey};
+ghost use Rattle.jr_table.specs.TypeView.{ty_of};
+ghost use Rattle.jr_scopes.specs.Helds.{key_of};
 ghost use Rattle.jr_new_words.specs.Mappings as pure;
-ghost use Rattle.jr_new_words.specs.MappingView.{numbers_of, renumbering_of};
+ghost use Rattle.jr_new_words.specs.MappingView.{numbers_of, renumbering_of, gone_of};
 
 use jr_ast::Name;
 use jr_table::Ty;
@@ -17,14 +20,23 @@ pub struct MadeLocal<'a> {
     pub ty: &'a Ty,
 }
 
+/// A local that is gone, and an old type of which what stands now at its reads has the image.
+#[derive(Clone, Copy, Drop)]
+pub struct GoneLocal<'a> {
+    pub number: u32,
+    pub ty: &'a Ty,
+}
+
 /// New numbers. The first locals have these, or are gone; the others have those from `next` on.
-/// Those that are made stand behind the first `depth` of the old place.
+/// Those that are made stand behind the first `depth` of the old place. At the reads of the local
+/// `gone` something else stands.
 #[derive(Clone, Copy, Drop)]
 pub struct Renumbering<'a> {
     pub firsts: &'a [Option<u32>],
     pub next: u32,
     pub made: &'a [MadeLocal<'a>],
     pub depth: usize,
+    pub gone: Option<GoneLocal<'a>>,
 }
 
 /// What becomes of a member's locals.
@@ -74,5 +86,35 @@ pub(crate) fn number_if_kept(numbers: &LocalMapping<'_>, number: u32) -> Option<
     match number_to(numbers, number) {
         Ok(number) => number,
         Err(_) => None,
+    }
+}
+
+/// The local at whose reads something else stands.
+pub(crate) fn gone_in<'a>(numbers: &LocalMapping<'a>) -> Option<&'a GoneLocal<'a>>
+    ensures { option_map (λ g. gone_of g.now) result ≡ pure.gone_in (numbers_of numbers.now) }
+{
+    match *numbers {
+        LocalMapping::AllStay => None,
+        LocalMapping::Renumbered(r) => match &r.gone {
+            None => None,
+            Some(gone) => Some(gone),
+        },
+    }
+}
+
+/// The type of what stands at a read of the local of this number, if something else does.
+pub(crate) fn type_for<'a>(gone: &GoneLocal<'a>, number: Option<u32>) -> Option<&'a Ty>
+    ensures { (k : MemberKey) → option_map (λ t. ty_of t.now) result
+        ≡ pure.type_for (gone_of gone.now) (option_map (key_of k) number) }
+{
+    match number {
+        None => None,
+        Some(number) => {
+            if number == gone.number {
+                Some(gone.ty)
+            } else {
+                None
+            }
+        }
     }
 }

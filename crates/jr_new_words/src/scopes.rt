@@ -9,11 +9,14 @@ ghost use Rattle.jr_new_words.specs.MappingView.{numbers_of, made_of};
 ghost use Rattle.jr_new_words.specs.Scopes.{PutsDepth, made_held};
 
 use crate::mappings::{class_to, local_name, member_to};
-use crate::numbers::{LocalMapping, MadeLocal, Renumbering, number_to};
+use crate::numbers::{
+    GoneLocal, LocalMapping, MadeLocal, Renumbering, gone_in, number_to, type_for,
+};
 use crate::programs::Tables;
+use jr_ast::Name;
 use jr_lookup::{Scope, ScopeLocals};
 use jr_scopes::{Held, HeldType, Locals};
-use jr_table::{ClassKey, MemberKey};
+use jr_table::{ClassKey, MemberKey, Ty};
 use std::alloc::{AllocError, Global};
 
 /// What is known at a place of a member besides the tables: the locals in scope, and their images.
@@ -134,12 +137,16 @@ impl<'a> Scopes<'a> {
       take,
       IfOk,
       OnOk,
+      Some,
       option_map,
       option_to_list,
     };
     ghost use Rattle.jr_table.specs.HeadRules.{plain};
     ghost use Rattle.jr_scopes.specs.Helds.{held_of, local_of};
+    ghost use Rattle.jr_table.specs.TypeView.{ty_of};
     ghost use Rattle.jr_new_words.specs.Mappings.{renumbered, member_to, if_kept, number_by};
+    ghost use Rattle.jr_new_words.specs.Mappings.{type_read, gone_in};
+    ghost use Rattle.jr_new_words.specs.MappingView.{gone_of};
     ghost use Rattle.jr_new_words.specs.MappingView.{keys_of, numbers_of, renumbering_of, mapping_in};
     ghost use Rattle.jr_new_words.specs.Scopes.{
       AreTables,
@@ -252,6 +259,22 @@ impl<'a> Scopes<'a> {
         ensures own { self.new.own ≡ own }
     {
         self.own = own;
+    }
+
+    /// The local at whose reads something else stands, if there is one.
+    pub fn gone(&self) -> Option<&'a GoneLocal<'a>>
+        ensures { option_map (λ g. gone_of g.now) result ≡ gone_in (mapping_of self.now).locals }
+    {
+        gone_in(&self.numbers)
+    }
+
+    /// The old type of what stands where the name is read, if it finds the local that is gone.
+    pub fn type_read(&self, gone: &GoneLocal<'a>, name: &Name) -> Option<&'a Ty>
+        requires { IsKept self.now }
+        ensures { option_map (λ t. ty_of t.now) result
+            ≡ type_read (gone_of gone.now) (context_of self.now) (Some name.now) }
+    {
+        type_for(gone, self.locals.number_named(name))
     }
 
     /// What becomes of a local, if it isn't gone.

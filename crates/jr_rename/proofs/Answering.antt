@@ -1,5 +1,5 @@
 -- What is answered, put together from what the calls below answer.
-use Rattle.std.proofs.Common.{◌≡◌, ℕ, ◌<◌, List, Option, Some, None, refl, sym, subst, ◌∙◌, inl, inr, length, arith}
+use Rattle.std.proofs.Common.{◌≡◌, ℕ, ◌<◌, List, Option, Some, None, refl, sym, ap, subst, ◌∙◌, inl, inr, length, arith}
 use Rattle.std.specs.Prelude.{slice_get, option_map}
 use Rattle.std.proofs.lemmas.List.{append-nil}
 use Rattle.std.proofs.lemmas.Option.{slice_get-map, slice_get_cases}
@@ -10,21 +10,31 @@ use Rattle.jr_grammar.specs.Reads.{Reads}
 use Rattle.jr_table.specs.Keys.{ClassKey, MethodKey}
 use Rattle.jr_table.specs.Decls.{Decl}
 use Rattle.jr_table.specs.Rows.{Row}
+use Rattle.jr_table.specs.Context.{Context}
+use Rattle.jr_table.specs.DeclaredItems.{declarations_of}
 use Rattle.jr_names.specs.Refusals.{Refusal, prelude_method, override_changed, lost_binding}
 use Rattle.jr_names.specs.Replies.{Outcome, planned, not_planned}
 use Rattle.jr_images.proofs.Imaging.{map_some}
 use Rattle.jr_bind.specs.Programs.{File, Program, IsProgram, units_of}
+use Rattle.jr_program_laws.specs.FileParts.{begins}
 use Rattle.jr_rewrite.specs.Respellings.{Loss}
+use Rattle.jr_rewrite.specs.Rewritten.{Rewritten}
+use Rattle.jr_rewrite.specs.Rewrites.{RewritesUnits}
 use Rattle.jr_images.specs.Images.{Renaming}
 use Rattle.jr_images.specs.Refusals.{HasPreludeMethod, ChangesPrelude}
-use Rattle.jr_images.specs.Regions.{images_of}
-use Rattle.jr_images.specs.Renames.{Renames, OfPrelude, Clashes}
+use Rattle.jr_images.specs.Renames.{Renames, Rewrite, pairs_of, OfPrelude, Clashes}
+use Rattle.jr_images.specs.Regions.{Region, images_of}
+use Rattle.jr_images.specs.Spelling.{choosing}
+use Rattle.jr_new_words.specs.Mappings as mappings
+use Rattle.jr_new_words.specs.Mappings.{Mapping}
+use Rattle.jr_new_words.proofs.Images.{region_is}
 use Rattle.jr_grammar.specs.Layout.{itself}
 use Rattle.jr_plan.specs.Transforms.{Lost, kept_from}
 use Rattle.jr_plan.specs.Reasons.{IsFirstChange, IsFirstLost, Overrides, IsRefused, by_itself, overrides, loses as loses_one}
 use Rattle.jr_plan.specs.Renaming.{rename_of, renaming}
 use Rattle.jr_plan.proofs.Rename.{rewrite_to, none_lost, same_pairs}
 use Rattle.jr_plan.proofs.RenameLost.{lost_in, first_lost}
+use Rattle.jr_new_files.specs.FileLaws.{AllRewritten}
 use Rattle.jr_new_files.specs.Rewritings.{IsRewriting}
 use Rattle.jr_cursor.specs.ProgramTargets.{HasTargetAt}
 use Rattle.jr_rename.specs.Afters.{PlansRows, AnswersRows}
@@ -38,17 +48,32 @@ there xs i h =
       | inr past ↦ absurd (omega (arith, h, past.0))
     ]
 
+-- with the pairs of the same rows
+pub pairs_along : (n : Renaming) (rs qs : List Row) (o : Outcome) (edits : List (List Entry)) (respelled : ℕ) → o ≡ planned edits (pairs_of rs n) respelled None → rs ≡ qs
+    → o ≡ planned edits (pairs_of qs n) respelled None
+pairs_along n rs qs o edits respelled e same = e ∙ ap (λ (rows : List Row). planned edits (pairs_of rows n) respelled None) same
+
 module _ (p : Program Span) where
   -- ---- what comes of a renaming
 
-  pub loses : (g : Renaming) (edits : List (List Entry)) (respelled : ℕ) (lost : Option (ℕ × Loss)) → IsRewriting p g edits respelled lost → (file : ℕ) (l : Loss) → lost ≡ Some (file, l)
-      → AnswersKeeping p g (not_planned (lost_binding (record { file = file; at = l.at }) l.declaration l.found))
-  loses g edits respelled lost w file l e = (
-    rewrite_to p g w.files w.are,
-    lost_in file l,
-    subst (λ (all : List Lost). IsFirstLost all (lost_in file l)) (sym (append-nil (kept_from 0 w.files))) (first_lost w.files file l (w.first file l e)),
-    refl,
-  )
+  module _ (g : Renaming) (m : Mapping) (by : m.keys ≡ mappings.renamed g) (stay : m.locals ≡ mappings.all_stay) (edits : List (List Entry)) (respelled : ℕ) (lost : Option (ℕ × Loss)) where
+    -- what the mapping of a rename makes, the rename makes
+    rewritten : (files : List (Rewritten (syntax.Unit Span))) → AllRewritten itself p.rows p.super_at (units_of p) m files → Rewrite itself p.rows p.super_at (units_of p) g files
+    rewritten files are =
+        let same : m ≡ record { keys = mappings.renamed g; locals = mappings.all_stay; new = m.new } = (λ i. record { keys = by i; locals = stay i; new = m.new }) in
+        subst (λ (r : Region Span). RewritesUnits itself (choosing begins p.rows r (λ (c : Context). p.super_at c.member)) (declarations_of begins (units_of p)) (units_of p) files) (region_is p.rows g m.new)
+        (subst (λ (x : Mapping). AllRewritten itself p.rows p.super_at (units_of p) x files) same are)
+
+    pub loses : IsRewriting p m edits respelled lost → (file : ℕ) (l : Loss) → lost ≡ Some (file, l) → AnswersKeeping p g (not_planned (lost_binding (record { file = file; at = l.at }) l.declaration l.found))
+    loses w file l e = (
+      rewrite_to p g w.files (rewritten w.files w.are),
+      lost_in file l,
+      subst (λ (all : List Lost). IsFirstLost all (lost_in file l)) (sym (append-nil (kept_from 0 w.files))) (first_lost w.files file l (w.first file l e)),
+      refl,
+    )
+
+    pub loses_nothing : IsRewriting p m edits respelled lost → lost ≡ None → AnswersKeeping p g (planned edits (pairs_of p.rows g) respelled None)
+    loses_nothing w e = (record { files = w.files; rewrite = rewritten w.files w.are; kept = w.none e; edits_are = w.edits_are; respelled_is = w.respelled_is }, refl, refl)
 
   pub overridden : (g : Renaming) (k : ClassKey) (m : MethodKey) → IsFirstChange p.rows (images_of p.rows g) k m → AnswersOf p g (not_planned (override_changed k m))
   overridden g k m h = inl (override_changed k m, refl, (k, m, h, refl))

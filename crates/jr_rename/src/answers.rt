@@ -27,7 +27,7 @@ use jr_images::{NewName, rows_to};
 use jr_members::WrittenMember;
 use jr_names::{EditLists, Outcome, Refusal};
 use jr_new_files::{Rewriting, rewrite};
-use jr_new_words::{Lost, Programs};
+use jr_new_words::{Lost, Programs, tables_of};
 use jr_rename_laws::locals_keep_keys;
 use jr_table::{Decl, Table};
 use jr_text::{EditList, Place, Span};
@@ -80,11 +80,12 @@ fn of_programs<V: View<Span>>(
     ensures { IfOk result (λ o. AnswersKeeping (V.program view.now) (renaming_in programs.now)
         (outcome_of o)) }
 {
+    let tables = tables_of(programs);
     let Rewriting {
         edits,
         respelled,
         lost,
-    } = rewrite(alloc, view, members, programs)?;
+    } = rewrite(alloc, view, members, &tables)?;
     match lost {
         Some((file, lost)) => Ok(lost_binding(file, lost)),
         None => plan_of(alloc, programs, edits, respelled),

@@ -62,7 +62,7 @@ fn plan_among<V: View<Span>>(
         after.new) }
 {
     view.keeps_program();
-    match target(alloc, view, members, file, at)? {
+    match target(view, members, file, at)? {
         None => no_target(alloc, file, at),
         Some(target) => {
             let outcome = of_target(alloc, view, members, &target, new, after);

@@ -1,11 +1,16 @@
-use Rattle.std.proofs.Common.{[], map, subst}
+use Rattle.std.proofs.Common.{map}
+use Rattle.std.proofs.lemmas.Result.{IfOk-weaker}
 use Rattle.jr_members.specs.PartView.{written_of}
 use Rattle.jr_dependence_lines.specs.MemberLines.{in_file}
-use Rattle.jr_dependence_lines.specs.Tallies.{PutsMembers}
+use Rattle.jr_dependence_lines.proofs.ShownLines.{told_shown, counted_shown}
 use Rattle.jr_dependence_lines.proofs.file_lines.dependence_lines.Goals as goal
 
-pub returns-in-Ok-None : goal.returns-in-Ok-None
-returns-in-Ok-None c files items each there =
-    let h = subst (λ o. PutsMembers c.args.table.now items (in_file c.args.file (map written_of c.args.written.now)) c.begin-tally.result c.put_members.new.tally o) c.in-Ok-None.field-0-is (c.in-Ok-None.ensures files items each there) in
-    let t = h.2 c.args.before c.args.most [] c.begin-tally.ensures in
-    (h.0, h.1, t.counted, t.kept)
+pub returns-then-fits : goal.returns-then-fits
+returns-then-fits c files items each there =
+    let ws = in_file c.args.file (map written_of c.args.written.now) in
+    IfOk-weaker c.tell_lines-then-fits.result _ _ (λ s h. told_shown c.args.table.now items c.args.before c.args.most ws s h) (c.tell_lines-then-fits.ensures files items each there)
+
+pub returns : goal.returns
+returns c files items each there =
+    let ws = in_file c.args.file (map written_of c.args.written.now) in
+    counted_shown c.args.table.now items c.args.before c.args.most ws c.in_ok-counted.counted (c.in_ok-counted.ensures files items each there) (c.fits.ensures c.if-fits.false)

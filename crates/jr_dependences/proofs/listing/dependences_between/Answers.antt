@@ -17,7 +17,7 @@ pub loop-first-preserved : goal.loop-first-preserved
 loop-first-preserved c =
     let first = c.loop-first.first in
     adds_then (DependsIn SameNumber SameNumber c.args.sites.now c.args.graph.now.edges.items) (λ d. d.first < first) (IsOn first) (λ d. d.first < first + 1) [] c.loop-first.list.items c.push_row.new.list.items c.loop-first.invariant
-    c.in_ok-push_row.ensures (on_before first) (λ x h. on_more first x)
+    (c.in_ok-push_row.ensures c.args.graph.now.edges.items c.in_ok-reach.ensures c.in_ok-rows.ensures) (on_before first) (λ x h. on_more first x)
 
 pub returns-clause-ordered : goal.returns-clause-ordered
 returns-clause-ordered c =

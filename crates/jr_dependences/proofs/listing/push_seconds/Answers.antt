@@ -3,10 +3,10 @@ use Rattle.std.proofs.lemmas.Option.{slice_get_within}
 use Rattle.jr_dependences.specs.declared.dependence.Dependence.{Dependence}
 use Rattle.jr_dependences.specs.Depends.{DependsIn}
 use Rattle.jr_dependences.specs.Kinds.{told}
-use Rattle.jr_dependences.specs.Listed.{IsOn, IsBetween, Adds}
+use Rattle.jr_dependences.specs.Listed.{IsOn, IsUpTo, IsBetween, Adds}
 use Rattle.jr_dependences.specs.Numbers.{SameNumber}
 use Rattle.jr_dependences.proofs.Adding.{adds_none, adds_same, adds_then}
-use Rattle.jr_dependences.proofs.Asking.{IsUpTo, up_to_before, up_to_more}
+use Rattle.jr_dependences.proofs.Asking.{up_to_before, up_to_more}
 use Rattle.jr_dependences.proofs.Telling.{told_listed, adds_listed}
 use Rattle.jr_dependences.proofs.listing.push_seconds.Goals as goal
 

@@ -1,9 +1,8 @@
 use Rattle.std.proofs.Common.{ℕ, List}
 use Rattle.jr_dependences.specs.Depends.{DependsIn}
 use Rattle.jr_dependences.specs.Known.{KnowsPaths}
-use Rattle.jr_dependences.specs.Listed.{Adds}
+use Rattle.jr_dependences.specs.Listed.{IsUpTo, Adds}
 use Rattle.jr_dependences.specs.Numbers.{SameNumber}
-use Rattle.jr_dependences.proofs.Asking.{IsUpTo}
 use Rattle.jr_dependences.proofs.listing.push_seconds.Given as goal
 
 abbrev pub invariant-loop-second : goal.invariant-loop-second

@@ -4,10 +4,10 @@ use Rattle.std.specs.List.{sum_by}
 use Rattle.std.proofs.lemmas.Option.{slice_get_within}
 use Rattle.jr_dependences.specs.Depends.{DependsIn}
 use Rattle.jr_dependences.specs.Kinds.{told, all_weights}
-use Rattle.jr_dependences.specs.Listed.{IsOn, IsBetween}
+use Rattle.jr_dependences.specs.Listed.{IsOn, IsUpTo, IsBetween}
 use Rattle.jr_dependences.specs.Numbers.{SameNumber}
 use Rattle.jr_dependences.specs.Weights.{weight, Weighs}
-use Rattle.jr_dependences.proofs.Asking.{IsUpTo, up_to_before, up_to_more}
+use Rattle.jr_dependences.proofs.Asking.{up_to_before, up_to_more}
 use Rattle.jr_dependences.proofs.Telling.{told_listed, told_sum, weighs_none, weighs_then, weighs_same}
 use Rattle.jr_dependences.proofs.weighing.weigh_seconds.Goals as goal
 

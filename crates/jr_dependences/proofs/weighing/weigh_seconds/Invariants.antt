@@ -1,9 +1,9 @@
 use Rattle.std.proofs.Common.{ℕ, List}
 use Rattle.jr_dependences.specs.Depends.{DependsIn}
 use Rattle.jr_dependences.specs.Known.{KnowsPaths}
+use Rattle.jr_dependences.specs.Listed.{IsUpTo}
 use Rattle.jr_dependences.specs.Numbers.{SameNumber}
 use Rattle.jr_dependences.specs.Weights.{Weighs}
-use Rattle.jr_dependences.proofs.Asking.{IsUpTo}
 use Rattle.jr_dependences.proofs.weighing.weigh_seconds.Given as goal
 
 abbrev pub invariant-loop-second : goal.invariant-loop-second

@@ -12,7 +12,6 @@ use Rattle.jr_bind_expr.proofs.Steps.{own_fits}
 use Rattle.jr_new_words.specs.ChoiceView.{choice_of}
 use Rattle.jr_new_words.specs.FrontView.{in_front_of}
 use Rattle.jr_new_words.specs.Chosen as chosen
-use Rattle.jr_new_words.specs.Mappings.{type_to, types_to}
 use Rattle.jr_new_bodies.specs.declared.here.Role.{Role}
 use Rattle.jr_new_bodies.specs.Known.{rows_of, mapping_of, context_of, role_of, NameIsBound, NameSpells, DottedIsBound, DottedSpells}
 use Rattle.jr_new_bodies.specs.MeaningView.{AreTypes}
@@ -20,6 +19,15 @@ use Rattle.jr_new_bodies.proofs.Choices as choices
 use Rattle.jr_new_bodies.proofs.Choices.{some_where, some_here, of_some}
 use Rattle.jr_new_bodies.proofs.Typed.{writes_is, creation_at}
 use Rattle.jr_new_bodies.proofs.called.class_call.Goals as goal
+
+pub words_stand-requires : goal.words_stand-requires
+words_stand-requires g c = record { known = c.requires.known; fits = c.requires.fits; sound = c.requires.sound; refers = c.requires.refers; class = c.requires.class }
+
+pub types_now-requires : goal.types_now-requires
+types_now-requires g c = record { known = c.requires.known }
+
+pub static_call-requires : goal.static_call-requires
+static_call-requires g c = c.requires.known
 
 pub unwrap-requires : goal.unwrap-requires
 unwrap-requires g c =

@@ -11,7 +11,6 @@ use Rattle.jr_table.specs.Binding.{value, left, statement, variable}
 use Rattle.jr_bind_expr.proofs.Steps.{own_fits}
 use Rattle.jr_new_words.specs.ChoiceView.{choice_of}
 use Rattle.jr_new_words.specs.Chosen as chosen
-use Rattle.jr_new_words.specs.Mappings.{type_to, types_to}
 use Rattle.jr_new_bodies.specs.declared.here.Role.{Role}
 use Rattle.jr_new_bodies.specs.Known.{rows_of, mapping_of, context_of, role_of, NameIsBound, NameSpells, DottedIsBound, DottedSpells}
 use Rattle.jr_new_bodies.specs.MeaningView.{AreTypes}

@@ -11,7 +11,7 @@ use Rattle.jr_table.specs.Binding.{value, left, statement, variable}
 use Rattle.jr_bind_expr.proofs.Steps.{own_fits}
 use Rattle.jr_new_words.specs.ChoiceView.{choice_of}
 use Rattle.jr_new_words.specs.Chosen as chosen
-use Rattle.jr_new_words.specs.Mappings.{type_to, types_to}
+use Rattle.jr_new_words.specs.Mappings.{type_now}
 use Rattle.jr_new_bodies.specs.declared.here.Role.{Role}
 use Rattle.jr_new_bodies.specs.Known.{rows_of, mapping_of, context_of, role_of, NameIsBound, NameSpells, DottedIsBound, DottedSpells}
 use Rattle.jr_new_bodies.specs.MeaningView.{AreTypes}
@@ -43,4 +43,4 @@ returns g c =
     let B = λ (k : g.row.A.Denot) (b : ℕ). (g.A.Mark.span_from k b).from in
     let exact = c.types_are_exact.ensures.bound rows are keys x in
     let made = of_some choice_of c.in_ok-choice.choice c.unwrap.result (λ o. chosen.CallIsChosen rows n x c.args.at (class_key_of c.args.class.now) (ty_of c.in_ok-now.now) c.args.name.now c.args.types.now c.in_ok-images.images o) c.unwrap.ensures c.in_ok-choice.ensures in
-    choices.call_chosen rows are keys n x B c.args.name.now (exprs_of c.args.args.now) (expr_of c.args.part.now) (class_key_of c.args.class.now) c.args.types.now c.args.at (choice_of c.unwrap.result) c.requires.value c.requires.types (subst (λ us. chosen.CallIsChosen rows n x c.args.at (class_key_of c.args.class.now) (type_to n (class (class_key_of c.args.class.now))) c.args.name.now c.args.types.now us (Some (choice_of c.unwrap.result))) c.in_ok-images.ensures (subst (λ t. chosen.CallIsChosen rows n x c.args.at (class_key_of c.args.class.now) t c.args.name.now c.args.types.now c.in_ok-images.images (Some (choice_of c.unwrap.result))) c.in_ok-now.ensures made))
+    choices.call_chosen rows are keys n x B c.args.name.now (exprs_of c.args.args.now) (expr_of c.args.part.now) (class_key_of c.args.class.now) c.args.types.now c.args.at (choice_of c.unwrap.result) c.requires.value c.requires.types (subst (λ us. chosen.CallIsChosen rows n x c.args.at (class_key_of c.args.class.now) (type_now n x (expr_of c.args.part.now) (class (class_key_of c.args.class.now))) c.args.name.now c.args.types.now us (Some (choice_of c.unwrap.result))) c.in_ok-images.ensures (subst (λ t. chosen.CallIsChosen rows n x c.args.at (class_key_of c.args.class.now) t c.args.name.now c.args.types.now c.in_ok-images.images (Some (choice_of c.unwrap.result))) c.in_ok-now.ensures made))

@@ -2,10 +2,13 @@ use Rattle.std.proofs.Common.{[], ◌∷◌, ◌++◌, ap, ◌∙◌}
 use Rattle.jr_ast.specs.View.{word_of, type_of, expr_of}
 use Rattle.jr_table.specs.Context.{in_own, local_of}
 use Rattle.jr_table.specs.Binding.{value}
+use Rattle.jr_new_bodies.specs.Spotting.{spots_of}
+use Rattle.jr_new_bodies.specs.SpotView.{spotting_of}
 use Rattle.jr_new_bodies.specs.OutputView.{gathered}
 use Rattle.jr_new_bodies.specs.Known.{context_of}
 use Rattle.jr_new_bodies.specs.Effects.{Gathers}
-use Rattle.jr_rewrite.specs.Rewrites.{RewritesExp}
+use Rattle.jr_rewrite.specs.Spots.{level}
+use Rattle.jr_rewrite.specs.Rewrites.{TransformsPart}
 use Rattle.jr_new_words.specs.Spelled.{spelling}
 use Rattle.jr_new_bodies.specs.Ready.{ExpReadyIn}
 use Rattle.jr_new_bodies.specs.Moves.{without_own}
@@ -44,10 +47,11 @@ returns g c =
             mapping = last.mapping ∙ declared.mapping;
             bound = last.bound ∙ declared.bound;
             from_is = last.from_is ∙ declared.from_is;
+            spots = last.spots ∙ declared.spots;
           };
       gives = (
         gathered c.local_head.new.out,
         c.in_ok-local_head.ensures,
-        λ s. moved (λ rs k d. Gathers (RewritesExp T (spelling (λ m b. (T m b).from) rs k s) d value c.args.at (expr_of c.args.init.now)) (gathered c.local_head.new.out) (gathered c.operand.new.out)) h i inside c.in_ok-declare.ensures (c.in_ok-operand.ensures s),
+        λ s. moved (λ rs k z d. Gathers (TransformsPart T (spelling (λ m b. (T m b).from) rs k s.super_at) (spots_of T s (spotting_of z)) (level 0) d value c.args.at (expr_of c.args.init.now)) (gathered c.local_head.new.out) (gathered c.operand.new.out)) h i inside c.in_ok-declare.ensures (c.in_ok-operand.ensures s),
       );
     }

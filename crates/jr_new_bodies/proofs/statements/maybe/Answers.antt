@@ -10,8 +10,9 @@ use Rattle.jr_new_bodies.specs.Known.{context_of}
 use Rattle.jr_new_bodies.specs.Bodies.{MaybeGathers}
 use Rattle.jr_new_bodies.specs.Ready.{MaybeReady}
 use Rattle.jr_new_bodies.proofs.Joining.{gathers_none, gathers_within}
-use Rattle.jr_rewrite.specs.Rewrites.{RewritesExp}
-use Rattle.jr_new_bodies.specs.Walks.{choosing}
+use Rattle.jr_rewrite.specs.Spots.{level}
+use Rattle.jr_rewrite.specs.Rewrites.{TransformsPart}
+use Rattle.jr_new_bodies.specs.Walks.{choosing, spotted}
 use Rattle.jr_new_bodies.proofs.statements.maybe.Goals as goal
 
 pub operand-requires-clause-ready : goal.operand-requires-clause-ready
@@ -26,4 +27,4 @@ returns-in-Some g c =
     let h = c.args.here.now in
     let e = expr_of c.in-Some.of in
     IfOk-weaker c.operand.result _ _ (λ _ y. subst (λ (o : Option (Expr g.row.A.Denot)). MaybeGathers T h c.args.at (option_map expr_of o) (gathered c.args.out.now) (gathered c.operand.new.out)) (sym c.in-Some.is)
-    (λ s. gathers_within (λ (x : tree.Exp g.row.A.Denot). Some x) (RewritesExp T (choosing T h s) (context_of h) value c.args.at e) (gathered c.args.out.now) (gathered c.operand.new.out) (y s))) c.operand.ensures
+    (λ s. gathers_within (λ (x : tree.Exp g.row.A.Denot). Some x) (TransformsPart T (choosing T h s.super_at) (spotted T h s) (level 0) (context_of h) value c.args.at e) (gathered c.args.out.now) (gathered c.operand.new.out) (y s))) c.operand.ensures

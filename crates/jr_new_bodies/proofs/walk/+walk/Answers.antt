@@ -17,11 +17,16 @@ use Rattle.jr_new_words.specs.Spelled as spells
 use Rattle.jr_new_bodies.specs.Effects.{Effect}
 use Rattle.jr_new_bodies.specs.OutputView.{gathered}
 use Rattle.jr_new_bodies.specs.Known.{role_of, rows_of, mapping_of, context_of, DottedSpells, ExpReady, RowReady, TargetReady, TypesRow, TypesCreation, CallIsBound, first_of}
-use Rattle.jr_new_bodies.specs.Walks.{ExpGathers, RowGathers, TargetGathers, CallOnGathers, DottedGathers}
+use Rattle.jr_grammar.specs.Shape.{rank_of, sign_level}
+use Rattle.jr_rewrite.specs.Spots.{Asks, level, a_target}
+use Rattle.jr_new_bodies.specs.Spotting.{part_at}
+use Rattle.jr_new_bodies.specs.SpotView.{part_of, spotting_of}
+use Rattle.jr_new_bodies.specs.Walks.{ExpGathers, PartGathers, RowGathers, TargetGathers, CallOnGathers, DottedGathers}
 use Rattle.jr_new_bodies.proofs.Arms as arm
 use Rattle.jr_new_bodies.proofs.Arms.{falls_one, falls_two, falls_target}
 use Rattle.jr_new_bodies.proofs.Readying as parted
 use Rattle.jr_new_bodies.proofs.Giving as gives
+use Rattle.jr_new_bodies.proofs.Spotted.{span_is}
 use Rattle.jr_new_bodies.proofs.Stepping as step
 use Rattle.jr_new_bodies.proofs.Oks.{on_ok}
 use Rattle.jr_new_bodies.proofs.walk.+walk.Goals as goal
@@ -132,7 +137,7 @@ expr-field-requires g t c =
     let ready = subst (λ (e : tree.Exp g.row.A.Denot). ExpReady T F h role path base e) (ap (expr_kind m) c.in-Field.is) c.requires.ready in
     let same = c.deref.ensures in
     let n = arm.field_needs T F h role path base m at start c.deref.result.now c.in-Field.part.value (word_of c.in-Field.name) same ready in
-    λ κs o. (falls_one (exp_size (expr_of c.args.of.now)) _ _ 2 t (ap (λ (x : Expr g.row.A.Denot). exp_size (expr_of x)) same) (ap exp_size (ap (expr_kind m) c.in-Field.is)) c.decreases (omega arith), (o, (c.requires.known, (n.0, (n.1.0, n.1.1)))))
+    λ κs o. (falls_one (exp_size (expr_of c.args.of.now)) _ _ 3 t (ap (λ (x : Expr g.row.A.Denot). exp_size (expr_of x)) same) (ap exp_size (ap (expr_kind m) c.in-Field.is)) c.decreases (omega arith), (o, (c.requires.known, (n.0, (n.1.0, n.1.1)))))
 
 pub expr-call-requires : goal.expr-call-requires
 unfolding exp_size exps_size target_size expr_kind expr_row held_target
@@ -149,7 +154,7 @@ expr-call-requires g t c =
     let ready = subst (λ (e : tree.Exp g.row.A.Denot). ExpReady T F h role path base e) (ap (expr_kind m) c.in-Call.is ∙ expr_kind-Call_to _ m c.in-Call.target c.in-Call.name c.in-Call.args) c.requires.ready in
     let same = c.deref-in-Call.ensures.value in
     let n = arm.call_needs T F h role path base m at start c.in-Call.target (word_of c.in-Call.name) c.deref-in-Call.result.now c.in-Call.args.items same ready in
-    λ κs o. (falls_two (exp_size (expr_of c.args.of.now)) _ _ _ _ 4 t refl (ap (λ (x : List (Expr g.row.A.Denot)). exps_size (exprs_of x)) same) (ap exp_size (ap (expr_kind m) c.in-Call.is ∙ expr_kind-Call_to _ m c.in-Call.target c.in-Call.name c.in-Call.args)) c.decreases (omega arith), (o, (c.requires.known, (n.0, (n.1.0, (n.1.1.0, n.1.1.1))))))
+    λ κs o. (falls_two (exp_size (expr_of c.args.of.now)) _ _ _ _ 5 t refl (ap (λ (x : List (Expr g.row.A.Denot)). exps_size (exprs_of x)) same) (ap exp_size (ap (expr_kind m) c.in-Call.is ∙ expr_kind-Call_to _ m c.in-Call.target c.in-Call.name c.in-Call.args)) c.decreases (omega arith), (o, (c.requires.known, (n.0, (n.1.0, (n.1.1.0, n.1.1.1))))))
 
 pub expr-super_call-requires : goal.expr-super_call-requires
 unfolding exp_size exps_size target_size expr_kind expr_row held_target
@@ -166,7 +171,7 @@ expr-super_call-requires g t c =
     let ready = subst (λ (e : tree.Exp g.row.A.Denot). ExpReady T F h role path base e) (ap (expr_kind m) c.in-SuperCall.is ∙ expr_kind-SuperCall _ m c.in-SuperCall.name c.in-SuperCall.args) c.requires.ready in
     let same = c.deref-in-SuperCall.ensures.value in
     let n = arm.super_call_needs T F h role path base m at start (word_of c.in-SuperCall.name) c.deref-in-SuperCall.result.now c.in-SuperCall.args.items same ready in
-    λ κs o. (falls_one (exp_size (expr_of c.args.of.now)) _ _ 3 t (ap (λ (x : List (Expr g.row.A.Denot)). exps_size (exprs_of x)) same) (ap exp_size (ap (expr_kind m) c.in-SuperCall.is ∙ expr_kind-SuperCall _ m c.in-SuperCall.name c.in-SuperCall.args)) c.decreases (omega arith), (o, (c.requires.known, (n.0, (n.1.0, n.1.1)))))
+    λ κs o. (falls_one (exp_size (expr_of c.args.of.now)) _ _ 4 t (ap (λ (x : List (Expr g.row.A.Denot)). exps_size (exprs_of x)) same) (ap exp_size (ap (expr_kind m) c.in-SuperCall.is ∙ expr_kind-SuperCall _ m c.in-SuperCall.name c.in-SuperCall.args)) c.decreases (omega arith), (o, (c.requires.known, (n.0, (n.1.0, n.1.1)))))
 
 pub expr-create-requires : goal.expr-create-requires
 unfolding exp_size exps_size target_size expr_kind expr_row held_target
@@ -183,7 +188,7 @@ expr-create-requires g t c =
     let ready = subst (λ (e : tree.Exp g.row.A.Denot). ExpReady T F h role path base e) (ap (expr_kind m) c.in-New.is ∙ expr_kind-New _ m c.in-New.ty c.in-New.args) c.requires.ready in
     let same = c.deref-in-New.ensures.value in
     let n = arm.create_needs T F h role path base m at start (type_of c.in-New.ty) c.deref-in-New.result.now c.in-New.args.items same ready in
-    λ κs o. (falls_one (exp_size (expr_of c.args.of.now)) _ _ 3 t (ap (λ (x : List (Expr g.row.A.Denot)). exps_size (exprs_of x)) same) (ap exp_size (ap (expr_kind m) c.in-New.is ∙ expr_kind-New _ m c.in-New.ty c.in-New.args)) c.decreases (omega arith), (o, (c.requires.known, (n.0, (n.1.0, (n.1.1.0, (n.1.1.1.0, n.1.1.1.1)))))))
+    λ κs o. (falls_one (exp_size (expr_of c.args.of.now)) _ _ 4 t (ap (λ (x : List (Expr g.row.A.Denot)). exps_size (exprs_of x)) same) (ap exp_size (ap (expr_kind m) c.in-New.is ∙ expr_kind-New _ m c.in-New.ty c.in-New.args)) c.decreases (omega arith), (o, (c.requires.known, (n.0, (n.1.0, (n.1.1.0, (n.1.1.1.0, n.1.1.1.1)))))))
 
 pub expr-operand-requires : goal.expr-operand-requires
 unfolding exp_size exps_size target_size expr_kind expr_row held_target
@@ -199,7 +204,7 @@ expr-operand-requires g t c =
     let start : at ≡ (T m base).from = ap (λ (z : Span). z.from) c.span-span.ensures in
     let ready = subst (λ (e : tree.Exp g.row.A.Denot). ExpReady T F h role path base e) (ap (expr_kind m) c.in-Paren.is) c.requires.ready in
     let same = c.deref-in-Paren.ensures in
-    λ κs o. (falls_one (exp_size (expr_of c.args.of.now)) _ _ 1 t (ap (λ (x : Expr g.row.A.Denot). exp_size (expr_of x)) same) (ap exp_size (ap (expr_kind m) c.in-Paren.is)) c.decreases (omega arith), (o, (c.requires.known, arm.one_needs T F h role path base m at start _ c.deref-in-Paren.result.now c.in-Paren.part.value same (parted.in_paren T F h role path base m (expr_of c.in-Paren.part.value)) ready)))
+    λ κs o. (falls_one (exp_size (expr_of c.args.of.now)) _ _ 2 t (ap (λ (x : Expr g.row.A.Denot). exp_size (expr_of x)) same) (ap exp_size (ap (expr_kind m) c.in-Paren.is)) c.decreases (omega arith), (o, (c.requires.known, arm.one_needs T F h role path base m at start _ c.deref-in-Paren.result.now c.in-Paren.part.value same (parted.in_paren T F h role path base m (expr_of c.in-Paren.part.value)) ready)))
 
 pub expr-operand-requires-in-Unary : goal.expr-operand-requires-in-Unary
 unfolding exp_size exps_size target_size expr_kind expr_row held_target
@@ -215,11 +220,11 @@ expr-operand-requires-in-Unary g t c =
     let start : at ≡ (T m base).from = ap (λ (z : Span). z.from) c.span-span.ensures in
     let ready = subst (λ (e : tree.Exp g.row.A.Denot). ExpReady T F h role path base e) (ap (expr_kind m) c.in-Unary.is) c.requires.ready in
     let same = c.deref-in-Unary.ensures in
-    λ κs o. (falls_one (exp_size (expr_of c.args.of.now)) _ _ 1 t (ap (λ (x : Expr g.row.A.Denot). exp_size (expr_of x)) same) (ap exp_size (ap (expr_kind m) c.in-Unary.is)) c.decreases (omega arith), (o, (c.requires.known, arm.one_needs T F h role path base m at start _ c.deref-in-Unary.result.now c.in-Unary.part.value same (parted.in_unary T F h role path base m c.in-Unary.field-0 (expr_of c.in-Unary.part.value)) ready)))
+    λ κs o. (falls_one (exp_size (expr_of c.args.of.now)) _ _ 2 t (ap (λ (x : Expr g.row.A.Denot). exp_size (expr_of x)) same) (ap exp_size (ap (expr_kind m) c.in-Unary.is)) c.decreases (omega arith), (o, (c.requires.known, arm.one_needs T F h role path base m at start _ c.deref-in-Unary.result.now c.in-Unary.part.value same (parted.in_unary T F h role path base m c.in-Unary.field-0 (expr_of c.in-Unary.part.value)) ready)))
 
-pub expr-operand-requires-in-Bump : goal.expr-operand-requires-in-Bump
+pub expr-target-requires : goal.expr-target-requires
 unfolding exp_size exps_size target_size expr_kind expr_row held_target
-expr-operand-requires-in-Bump g t c =
+expr-target-requires g t c =
     let T = g.A.Mark.span_from in
     let F = g.A.Mark.fits_at in
     let h = c.args.here.now in
@@ -248,7 +253,7 @@ expr-cast-requires g t c =
     let ready = subst (λ (e : tree.Exp g.row.A.Denot). ExpReady T F h role path base e) (ap (expr_kind m) c.in-Cast.is) c.requires.ready in
     let same = c.deref-in-Cast.ensures in
     let n = arm.cast_needs T F h role path base m at start (type_of c.in-Cast.ty) c.deref-in-Cast.result.now c.in-Cast.part.value same ready in
-    λ κs o. (falls_one (exp_size (expr_of c.args.of.now)) _ _ 2 t (ap (λ (x : Expr g.row.A.Denot). exp_size (expr_of x)) same) (ap exp_size (ap (expr_kind m) c.in-Cast.is)) c.decreases (omega arith), (o, (c.requires.known, (n.0, (n.1.0, n.1.1)))))
+    λ κs o. (falls_one (exp_size (expr_of c.args.of.now)) _ _ 3 t (ap (λ (x : Expr g.row.A.Denot). exp_size (expr_of x)) same) (ap exp_size (ap (expr_kind m) c.in-Cast.is)) c.decreases (omega arith), (o, (c.requires.known, (n.0, (n.1.0, n.1.1)))))
 
 pub expr-pair-requires : goal.expr-pair-requires
 unfolding exp_size exps_size target_size expr_kind expr_row held_target
@@ -265,12 +270,12 @@ expr-pair-requires g t c =
     let ready = subst (λ (e : tree.Exp g.row.A.Denot). ExpReady T F h role path base e) (ap (expr_kind m) c.in-Binary.is) c.requires.ready in
     let one = c.deref-in-Binary.ensures in
     let other = c.deref-in-Binary-2.ensures in
-    let n = arm.two_need T F h role path base m at start _ c.deref-in-Binary.result.now c.deref-in-Binary-2.result.now c.in-Binary.left.value c.in-Binary.right.value one other (parted.in_binary T F h role path base m c.in-Binary.field-0 (expr_of c.in-Binary.left.value) (expr_of c.in-Binary.right.value)) ready in
-    λ κs o. (falls_two (exp_size (expr_of c.args.of.now)) _ _ _ _ 2 t (ap (λ (x : Expr g.row.A.Denot). exp_size (expr_of x)) one) (ap (λ (x : Expr g.row.A.Denot). exp_size (expr_of x)) other) (ap exp_size (ap (expr_kind m) c.in-Binary.is)) c.decreases (omega arith), (o, (c.requires.known, (n.0, n.1))))
+    let n = arm.two_need T F h role path base m at start _ c.deref-in-Binary.result.now c.deref-in-Binary-2.result.now c.in-Binary.left.value c.in-Binary.right.value one other (parted.in_binary T F h role path base m c.in-Binary.op (expr_of c.in-Binary.left.value) (expr_of c.in-Binary.right.value)) ready in
+    λ κs o. (falls_two (exp_size (expr_of c.args.of.now)) _ _ _ _ 3 t (ap (λ (x : Expr g.row.A.Denot). exp_size (expr_of x)) one) (ap (λ (x : Expr g.row.A.Denot). exp_size (expr_of x)) other) (ap exp_size (ap (expr_kind m) c.in-Binary.is)) c.decreases (omega arith), (o, (c.requires.known, (n.0, n.1))))
 
-pub expr-pair-requires-in-Assign : goal.expr-pair-requires-in-Assign
+pub expr-assigned-requires : goal.expr-assigned-requires
 unfolding exp_size exps_size target_size expr_kind expr_row held_target
-expr-pair-requires-in-Assign g t c =
+expr-assigned-requires g t c =
     let T = g.A.Mark.span_from in
     let F = g.A.Mark.fits_at in
     let h = c.args.here.now in
@@ -284,11 +289,11 @@ expr-pair-requires-in-Assign g t c =
     let one = c.deref-in-Assign.ensures in
     let other = c.deref-in-Assign-2.ensures in
     let n = arm.two_need T F h role path base m at start _ c.deref-in-Assign.result.now c.deref-in-Assign-2.result.now c.in-Assign.to.value c.in-Assign.value.value one other (parted.in_assign T F h role path base m (expr_of c.in-Assign.to.value) (expr_of c.in-Assign.value.value)) ready in
-    λ κs o. (falls_two (exp_size (expr_of c.args.of.now)) _ _ _ _ 2 t (ap (λ (x : Expr g.row.A.Denot). exp_size (expr_of x)) one) (ap (λ (x : Expr g.row.A.Denot). exp_size (expr_of x)) other) (ap exp_size (ap (expr_kind m) c.in-Assign.is)) c.decreases (omega arith), (o, (c.requires.known, (n.0, n.1))))
+    λ κs o. (falls_two (exp_size (expr_of c.args.of.now)) _ _ _ _ 3 t (ap (λ (x : Expr g.row.A.Denot). exp_size (expr_of x)) one) (ap (λ (x : Expr g.row.A.Denot). exp_size (expr_of x)) other) (ap exp_size (ap (expr_kind m) c.in-Assign.is)) c.decreases (omega arith), (o, (c.requires.known, (n.0, n.1))))
 
-pub expr-pair-requires-in-Compound : goal.expr-pair-requires-in-Compound
+pub expr-assigned-requires-in-Compound : goal.expr-assigned-requires-in-Compound
 unfolding exp_size exps_size target_size expr_kind expr_row held_target
-expr-pair-requires-in-Compound g t c =
+expr-assigned-requires-in-Compound g t c =
     let T = g.A.Mark.span_from in
     let F = g.A.Mark.fits_at in
     let h = c.args.here.now in
@@ -302,7 +307,7 @@ expr-pair-requires-in-Compound g t c =
     let one = c.deref-in-Compound.ensures in
     let other = c.deref-in-Compound-2.ensures in
     let n = arm.two_need T F h role path base m at start _ c.deref-in-Compound.result.now c.deref-in-Compound-2.result.now c.in-Compound.to.value c.in-Compound.value.value one other (parted.in_compound T F h role path base m c.in-Compound.field-0 (expr_of c.in-Compound.to.value) (expr_of c.in-Compound.value.value)) ready in
-    λ κs o. (falls_two (exp_size (expr_of c.args.of.now)) _ _ _ _ 2 t (ap (λ (x : Expr g.row.A.Denot). exp_size (expr_of x)) one) (ap (λ (x : Expr g.row.A.Denot). exp_size (expr_of x)) other) (ap exp_size (ap (expr_kind m) c.in-Compound.is)) c.decreases (omega arith), (o, (c.requires.known, (n.0, n.1))))
+    λ κs o. (falls_two (exp_size (expr_of c.args.of.now)) _ _ _ _ 3 t (ap (λ (x : Expr g.row.A.Denot). exp_size (expr_of x)) one) (ap (λ (x : Expr g.row.A.Denot). exp_size (expr_of x)) other) (ap exp_size (ap (expr_kind m) c.in-Compound.is)) c.decreases (omega arith), (o, (c.requires.known, (n.0, n.1))))
 
 pub expr-span-span-requires : goal.expr-span-span-requires
 unfolding expr_kind expr_row held_target
@@ -526,7 +531,7 @@ expr-returns-in-Paren g t c =
     let start : at ≡ (T m base).from = ap (λ (z : Span). z.from) c.span-span.ensures in
     let old = gathered c.args.out.now in
     let new = gathered c.operand.new.out in
-    IfOk-weaker c.operand.result _ _ (λ _ x. subst (λ (e : tree.Exp g.row.A.Denot). ExpGathers T h role base e old new) (sym (ap (expr_kind m) c.in-Paren.is)) (arm.one_returns T F h role path base m at start _ c.deref-in-Paren.result.now c.in-Paren.part.value old new c.deref-in-Paren.ensures (gives.paren_gives T h role base m (expr_of c.in-Paren.part.value) old new) x)) c.operand.ensures
+    IfOk-weaker c.operand.result _ _ (λ _ x. subst (λ (e : tree.Exp g.row.A.Denot). ExpGathers T h role base e old new) (sym (ap (expr_kind m) c.in-Paren.is)) (arm.one_returns T F h role path base m at start (level 0) _ c.deref-in-Paren.result.now c.in-Paren.part.value old new c.deref-in-Paren.ensures (gives.paren_gives T h role base m (expr_of c.in-Paren.part.value) old new) x)) c.operand.ensures
 
 pub expr-returns-in-Unary : goal.expr-returns-in-Unary
 unfolding expr_kind expr_row held_target
@@ -542,7 +547,7 @@ expr-returns-in-Unary g t c =
     let start : at ≡ (T m base).from = ap (λ (z : Span). z.from) c.span-span.ensures in
     let old = gathered c.args.out.now in
     let new = gathered c.operand-in-Unary.new.out in
-    IfOk-weaker c.operand-in-Unary.result _ _ (λ _ x. subst (λ (e : tree.Exp g.row.A.Denot). ExpGathers T h role base e old new) (sym (ap (expr_kind m) c.in-Unary.is)) (arm.one_returns T F h role path base m at start _ c.deref-in-Unary.result.now c.in-Unary.part.value old new c.deref-in-Unary.ensures (gives.unary_gives T h role base m c.in-Unary.field-0 (expr_of c.in-Unary.part.value) old new) x)) c.operand-in-Unary.ensures
+    IfOk-weaker c.operand-in-Unary.result _ _ (λ _ x. subst (λ (e : tree.Exp g.row.A.Denot). ExpGathers T h role base e old new) (sym (ap (expr_kind m) c.in-Unary.is)) (arm.one_returns T F h role path base m at start (level sign_level) _ c.deref-in-Unary.result.now c.in-Unary.part.value old new c.deref-in-Unary.ensures (gives.unary_gives T h role base m c.in-Unary.field-0 (expr_of c.in-Unary.part.value) old new) x)) c.operand-in-Unary.ensures
 
 pub expr-returns-in-Bump : goal.expr-returns-in-Bump
 unfolding expr_kind expr_row held_target
@@ -557,8 +562,8 @@ expr-returns-in-Bump g t c =
     let at = c.span-span.result.from in
     let start : at ≡ (T m base).from = ap (λ (z : Span). z.from) c.span-span.ensures in
     let old = gathered c.args.out.now in
-    let new = gathered c.operand-in-Bump.new.out in
-    IfOk-weaker c.operand-in-Bump.result _ _ (λ _ x. subst (λ (e : tree.Exp g.row.A.Denot). ExpGathers T h role base e old new) (sym (ap (expr_kind m) c.in-Bump.is)) (arm.one_returns T F h role path base m at start _ c.deref-in-Bump.result.now c.in-Bump.part.value old new c.deref-in-Bump.ensures (gives.bump_gives T h role base m c.in-Bump.field-0 (expr_of c.in-Bump.part.value) old new) x)) c.operand-in-Bump.ensures
+    let new = gathered c.target.new.out in
+    IfOk-weaker c.target.result _ _ (λ _ x. subst (λ (e : tree.Exp g.row.A.Denot). ExpGathers T h role base e old new) (sym (ap (expr_kind m) c.in-Bump.is)) (arm.one_returns T F h role path base m at start a_target _ c.deref-in-Bump.result.now c.in-Bump.part.value old new c.deref-in-Bump.ensures (gives.bump_gives T h role base m c.in-Bump.field-0 (expr_of c.in-Bump.part.value) old new) x)) c.target.ensures
 
 pub expr-returns-in-Binary : goal.expr-returns-in-Binary
 unfolding expr_kind expr_row held_target
@@ -574,7 +579,7 @@ expr-returns-in-Binary g t c =
     let start : at ≡ (T m base).from = ap (λ (z : Span). z.from) c.span-span.ensures in
     let old = gathered c.args.out.now in
     let new = gathered c.pair.new.out in
-    IfOk-weaker c.pair.result _ _ (λ _ x. subst (λ (e : tree.Exp g.row.A.Denot). ExpGathers T h role base e old new) (sym (ap (expr_kind m) c.in-Binary.is)) (arm.two_return T F h role path base m at start _ c.deref-in-Binary.result.now c.deref-in-Binary-2.result.now c.in-Binary.left.value c.in-Binary.right.value old new c.deref-in-Binary.ensures c.deref-in-Binary-2.ensures (gives.binary_gives T h role base m c.in-Binary.field-0 (expr_of c.in-Binary.left.value) (expr_of c.in-Binary.right.value) old new) x)) c.pair.ensures
+    IfOk-weaker c.pair.result _ _ (λ _ x. subst (λ (e : tree.Exp g.row.A.Denot). ExpGathers T h role base e old new) (sym (ap (expr_kind m) c.in-Binary.is)) (arm.two_return T F h role path base m at start (level (rank_of c.in-Binary.op)) (level (suc (rank_of c.in-Binary.op))) _ c.deref-in-Binary.result.now c.deref-in-Binary-2.result.now c.in-Binary.left.value c.in-Binary.right.value old new c.deref-in-Binary.ensures c.deref-in-Binary-2.ensures (gives.binary_gives T h role base m c.in-Binary.op (expr_of c.in-Binary.left.value) (expr_of c.in-Binary.right.value) old new) x)) c.pair.ensures
 
 pub expr-returns-in-Assign : goal.expr-returns-in-Assign
 unfolding expr_kind expr_row held_target
@@ -589,8 +594,8 @@ expr-returns-in-Assign g t c =
     let at = c.span-span.result.from in
     let start : at ≡ (T m base).from = ap (λ (z : Span). z.from) c.span-span.ensures in
     let old = gathered c.args.out.now in
-    let new = gathered c.pair-in-Assign.new.out in
-    IfOk-weaker c.pair-in-Assign.result _ _ (λ _ x. subst (λ (e : tree.Exp g.row.A.Denot). ExpGathers T h role base e old new) (sym (ap (expr_kind m) c.in-Assign.is)) (arm.two_return T F h role path base m at start _ c.deref-in-Assign.result.now c.deref-in-Assign-2.result.now c.in-Assign.to.value c.in-Assign.value.value old new c.deref-in-Assign.ensures c.deref-in-Assign-2.ensures (gives.assign_gives T h role base m (expr_of c.in-Assign.to.value) (expr_of c.in-Assign.value.value) old new) x)) c.pair-in-Assign.ensures
+    let new = gathered c.assigned.new.out in
+    IfOk-weaker c.assigned.result _ _ (λ _ x. subst (λ (e : tree.Exp g.row.A.Denot). ExpGathers T h role base e old new) (sym (ap (expr_kind m) c.in-Assign.is)) (arm.two_return T F h role path base m at start a_target (level 0) _ c.deref-in-Assign.result.now c.deref-in-Assign-2.result.now c.in-Assign.to.value c.in-Assign.value.value old new c.deref-in-Assign.ensures c.deref-in-Assign-2.ensures (gives.assign_gives T h role base m (expr_of c.in-Assign.to.value) (expr_of c.in-Assign.value.value) old new) x)) c.assigned.ensures
 
 pub expr-returns-in-Compound : goal.expr-returns-in-Compound
 unfolding expr_kind expr_row held_target
@@ -605,11 +610,11 @@ expr-returns-in-Compound g t c =
     let at = c.span-span.result.from in
     let start : at ≡ (T m base).from = ap (λ (z : Span). z.from) c.span-span.ensures in
     let old = gathered c.args.out.now in
-    let new = gathered c.pair-in-Compound.new.out in
-    IfOk-weaker c.pair-in-Compound.result _ _ (λ _ x. subst (λ (e : tree.Exp g.row.A.Denot). ExpGathers T h role base e old new) (sym (ap (expr_kind m) c.in-Compound.is)) (arm.two_return T F h role path base m at start _ c.deref-in-Compound.result.now c.deref-in-Compound-2.result.now c.in-Compound.to.value c.in-Compound.value.value old new c.deref-in-Compound.ensures c.deref-in-Compound-2.ensures (gives.compound_gives T h role base m c.in-Compound.field-0 (expr_of c.in-Compound.to.value) (expr_of c.in-Compound.value.value) old new) x)) c.pair-in-Compound.ensures
+    let new = gathered c.assigned-in-Compound.new.out in
+    IfOk-weaker c.assigned-in-Compound.result _ _ (λ _ x. subst (λ (e : tree.Exp g.row.A.Denot). ExpGathers T h role base e old new) (sym (ap (expr_kind m) c.in-Compound.is)) (arm.two_return T F h role path base m at start a_target (level 0) _ c.deref-in-Compound.result.now c.deref-in-Compound-2.result.now c.in-Compound.to.value c.in-Compound.value.value old new c.deref-in-Compound.ensures c.deref-in-Compound-2.ensures (gives.compound_gives T h role base m c.in-Compound.field-0 (expr_of c.in-Compound.to.value) (expr_of c.in-Compound.value.value) old new) x)) c.assigned-in-Compound.ensures
 
-pub operand-expr-requires : goal.operand-expr-requires
-operand-expr-requires g t c =
+pub operand-asked-requires : goal.operand-asked-requires
+operand-asked-requires g t c =
     λ κs o. (omega (arith, c.decreases), (o, (c.requires.known, subst (λ (q : List ℕ). ExpReady g.A.Mark.span_from g.A.Mark.fits_at c.args.here.now value q c.args.at (expr_of c.args.part.now)) (sym c.in_ok-inner.ensures) c.requires.ready)))
 
 pub pair-operand-requires : goal.pair-operand-requires
@@ -622,7 +627,60 @@ pair-operand-requires-2 g t c =
 
 pub pair-returns : goal.pair-returns
 pair-returns g t c =
-    IfOk-weaker c.operand-2.result _ _ (λ _ x. (gathered c.operand.new.out, c.in_ok-operand.ensures, x)) c.operand-2.ensures
+    let T = g.A.Mark.span_from in
+    let h = c.args.here.now in
+    let at = c.args.at in
+    let first = gathered c.operand.new.out in
+    let is = c.rank-least.ensures.is in
+    IfOk-weaker c.operand-2.result _ _ (λ _ x. (
+      first,
+      subst (λ (n : ℕ). PartGathers T h (level n) value at (expr_of c.args.left.now) (gathered c.args.out.now) first) is c.in_ok-operand.ensures,
+      subst (λ (n : ℕ). PartGathers T h (level n) value at (expr_of c.args.right.now) first (gathered c.operand-2.new.out)) (ap (λ (n : ℕ). n + 1) is ∙ add-one (rank_of c.args.op)) x,
+    )) c.operand-2.ensures
+
+pub asked-span-requires : goal.asked-span-requires
+asked-span-requires g t c =
+    own_fits (λ (k : g.row.A.Denot) (b : ℕ). (g.A.Mark.span_from k b).from) g.A.Mark.fits_at c.args.base c.args.of.now c.requires.ready.0
+
+pub asked-expr-requires : goal.asked-expr-requires
+asked-expr-requires g t c = λ κs o. (omega (arith, c.decreases), (o, (c.requires.known, c.requires.ready)))
+
+pub asked-returns-in-None : goal.asked-returns-in-None
+asked-returns-in-None g t c =
+    let T = g.A.Mark.span_from in
+    let h = c.args.here.now in
+    let e = c.args.of.now in
+    let none = ap (λ (s : Span). part_at s (spotting_of h.spots)) (sym (span_is T e c.args.base c.span.result c.span.ensures)) ∙ sym c.in-None.ensures in
+    IfOk-weaker c.expr.result _ _ (λ _ x. gives.node_gives T h (level c.args.least) (role_of c.args.role) c.args.base (expr_of e) (gathered c.args.out.now) (gathered c.expr.new.out) none x) c.expr.ensures
+
+pub asked-returns-in-Some : goal.asked-returns-in-Some
+asked-returns-in-Some g t c =
+    let T = g.A.Mark.span_from in
+    let h = c.args.here.now in
+    let e = c.args.of.now in
+    let p = part_of c.in-Some.spot.now in
+    let some = ap (λ (s : Span). part_at s (spotting_of h.spots)) (sym (span_is T e c.args.base c.span.result c.span.ensures)) ∙ sym c.in-Some.ensures in
+    on_ok c.put_part.result (λ is. gives.spot_gives T h (role_of c.args.role) c.args.base (expr_of e) p c.args.least (gathered c.args.out.now) (gathered c.put_part.new.out) some is) c.put_part.ensures
+
+pub target-expr-requires : goal.target-expr-requires
+target-expr-requires g t c =
+    λ κs o. (omega (arith, c.decreases), (o, (c.requires.known, subst (λ (q : List ℕ). ExpReady g.A.Mark.span_from g.A.Mark.fits_at c.args.here.now value q c.args.at (expr_of c.args.of.now)) (sym c.in_ok-inner.ensures) c.requires.ready)))
+
+pub target-returns : goal.target-returns
+target-returns g t c =
+    IfOk-weaker c.expr.result _ _ (λ _ x. gives.node_gives g.A.Mark.span_from c.args.here.now a_target value c.args.at (expr_of c.args.of.now) (gathered c.args.out.now) (gathered c.expr.new.out) tt x) c.expr.ensures
+
+pub assigned-target-requires : goal.assigned-target-requires
+assigned-target-requires g t c =
+    λ κs o. (omega (arith, c.decreases), (o, (c.requires.known, c.requires.ready_to)))
+
+pub assigned-operand-requires : goal.assigned-operand-requires
+assigned-operand-requires g t c =
+    λ κs o. (omega (arith, c.decreases), (o, (c.requires.known, c.requires.ready_value)))
+
+pub assigned-returns : goal.assigned-returns
+assigned-returns g t c =
+    IfOk-weaker c.operand.result _ _ (λ _ x. (gathered c.target.new.out, c.in_ok-target.ensures, x)) c.operand.ensures
 
 pub cast-operand-requires : goal.cast-operand-requires
 cast-operand-requires g t c =
@@ -636,14 +694,14 @@ pub operand_and_word-span-operand-requires : goal.operand_and_word-span-operand-
 operand_and_word-span-operand-requires g t c =
     own_fits (λ (k : g.row.A.Denot) (b : ℕ). (g.A.Mark.span_from k b).from) g.A.Mark.fits_at c.args.at c.args.part.now c.requires.ready.0
 
-pub operand_and_word-expr-requires : goal.operand_and_word-expr-requires
-operand_and_word-expr-requires g t c =
+pub operand_and_word-asked-requires : goal.operand_and_word-asked-requires
+operand_and_word-asked-requires g t c =
     λ κs o. (omega (arith, c.decreases), (o, (c.requires.known, c.requires.ready)))
 
 pub operand_and_word-returns : goal.operand_and_word-returns
 operand_and_word-returns g t c =
     on_ok c.put_end.result (λ ends. step.dotted_goes g.A.Mark.span_from c.args.here.now (choice_of c.args.choice) c.args.at c.args.word c.args.part.now c.span-operand.result c.start_of-from.result
-    (gathered c.args.out.now) (gathered c.put_front.new.out) (gathered c.expr.new.out) (gathered c.put_end.new.out) c.span-operand.ensures c.in_ok-put_front.ensures c.start_of-from.ensures c.in_ok-expr.ensures ends) c.put_end.ensures
+    (gathered c.args.out.now) (gathered c.put_front.new.out) (gathered c.asked.new.out) (gathered c.put_end.new.out) c.span-operand.ensures c.in_ok-put_front.ensures c.start_of-from.ensures (subst (λ (k : Asks). PartGathers g.A.Mark.span_from c.args.here.now k left c.args.at (expr_of c.args.part.now) (gathered c.put_front.new.out) (gathered c.asked.new.out)) c.asked_by-least.ensures c.in_ok-asked.ensures) ends) c.put_end.ensures
 
 pub field-dotted_choice-requires-clause-ready : goal.field-dotted_choice-requires-clause-ready
 field-dotted_choice-requires-clause-ready g t c =

@@ -28,4 +28,5 @@ returns-in-Ok c =
       mapping = beside.mapping ∙ first.mapping;
       bound = refl;
       from_is = refl;
+      spots = refl;
     }

@@ -9,4 +9,5 @@ returns c = record {
   mapping = c.in_ok-scopes.ensures.mapping;
   bound = refl;
   from_is = refl;
+  spots = refl;
 }

@@ -1,16 +1,16 @@
-use Rattle.std.proofs.Common.{List, map, subst}
+use Rattle.std.proofs.Common.{sym, subst}
 use Rattle.std.specs.Prelude.{IfSome}
-use Rattle.jr_table.specs.KeyView.{decl_of}
-use Rattle.jr_table.specs.Rows.{Row}
-use Rattle.jr_mentions.specs.Apart.{AreApart}
-use Rattle.jr_mentions.specs.ApartView.{names_in}
-use Rattle.jr_new_words.specs.Scopes.{rows_in, renaming_in}
-use Rattle.jr_new_files.proofs.Among.{is_unaffected}
+use Rattle.jr_new_words.specs.Mappings.{HaveImages}
+use Rattle.jr_new_words.specs.MappingView.{keys_of}
+use Rattle.jr_new_files.specs.Unaffected.{IsUnaffected}
 use Rattle.jr_new_files.proofs.unaffected.Unaffected.new.Goals as goal
 
-pub returns-in-Some : goal.returns-in-Some
-returns-in-Some c =
-    let p = c.args.programs.now in
-    let names = c.in-Some.names in
-    let apart = subst (λ o. IfSome o (λ a. AreApart (names_in a) p.before.now p.after.now)) c.in-Some.is c.apart.ensures.some in
-    is_unaffected (rows_in p) (renaming_in p) names (map decl_of c.as_slice.result.now) (subst (λ (rows : List Row). AreApart (names_in names) (rows_in p) rows) c.requires apart) c.as_slice.ensures c.unaffected_by.result c.unaffected_by.ensures
+pub of_rename-requires : goal.of_rename-requires
+of_rename-requires c =
+    let t = c.args.tables.now in
+    subst (λ k. HaveImages (keys_of k) t.before.now t.after.now) c.in-Renamed.is c.requires
+
+pub returns-in-Renamed : goal.returns-in-Renamed
+returns-in-Renamed c =
+    let t = c.args.tables.now in
+    subst (λ k. IfSome c.of_rename.result (IsUnaffected (keys_of k) t.before.now)) (sym c.in-Renamed.is) c.of_rename.ensures

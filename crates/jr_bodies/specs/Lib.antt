@@ -1,0 +1,6 @@
+pub mod MemberCode
+pub mod CodeView
+pub mod Bodies
+pub mod CodedBodies
+pub mod BodyLaws
+pub mod Selecting
