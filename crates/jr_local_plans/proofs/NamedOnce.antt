@@ -1,6 +1,6 @@
 -- Behind a declaration: ways to expressions of one span are one, and so are ways to names that begin at
 -- one byte.
-use Rattle.std.proofs.Common.{◌≡◌, ◌⊎◌, inl, inr, ℕ, [], ◌∷◌, ◌++◌, Some, refl, sym, ap, ◌∙◌, subst, arith}
+use Rattle.std.proofs.Common.{◌≤◌, ◌<◌, ◌≡◌, ◌⊎◌, inl, inr, ℕ, [], ◌∷◌, ◌++◌, Some, refl, sym, ap, ◌∙◌, subst, arith}
 use Rattle.std.specs.Prelude.{slice_get}
 use Rattle.std.proofs.lemmas.List.{append_assoc, append-nil}
 use Rattle.jr_text.specs.declared.spans.Span.{Span}
@@ -9,21 +9,24 @@ use Rattle.jr_ast.specs.StatementTree as statement
 use Rattle.jr_ast.specs.Marks.{exp_mark}
 use Rattle.jr_grammar.specs.Tokens.{placed_of}
 use Rattle.jr_grammar.specs.Layout.{itself}
-use Rattle.jr_grammar.specs.Stands.{Tokens, span_of, Stands}
+use Rattle.jr_grammar.specs.Stands.{Tokens, first_from, span_of, Stands}
 use Rattle.jr_grammar.specs.ExpressionLayout.{exp_layout}
+use Rattle.jr_grammar.specs.StatementLayout.{stmts_layout}
+use Rattle.jr_grammar.proofs.Layouts.{spans_from-span}
 use Rattle.jr_members.specs.WrittenMembers.{written_members}
 use Rattle.jr_bind.specs.Programs.{Program, units_of}
-use Rattle.jr_program_laws.proofs.TokenOrder.{StartsIn, Rising, Filled, piece_rises}
+use Rattle.jr_program_laws.proofs.TokenOrder.{StartsIn, Rising, Filled, in_front as starts_in_front, rising_front, starts_first, to_last, last_before, piece_rises}
 use Rattle.jr_program_laws.proofs.ItemTokens.{tokens_rise}
 use Rattle.jr_pieces.specs.Ways.{ListWay}
 use Rattle.jr_pieces.specs.Nearest.{Element, nearest}
+use Rattle.jr_pieces.specs.Nesting as nesting
+use Rattle.jr_pieces.specs.Nesting.{ListNested, end_from}
 use Rattle.jr_told_ways.specs.Told.{In}
 use Rattle.jr_local.specs.Bodies.{begins, Body, HasBody}
 use Rattle.jr_local.specs.Texts.{HasText}
 use Rattle.jr_local_texts.proofs.StandingParts.{Among, LastIs, ListFront, ElementWithin, list_among}
 use Rattle.jr_local_texts.proofs.StandingBodies.{element_stands, file_of_unit, contains_at}
 use Rattle.jr_one_plans.proofs.Beside.{IsWhole}
-use Rattle.jr_local_plans.proofs.BodyLists.{Inner, NestedBody, inner_nested}
 use Rattle.jr_local_plans.proofs.OneSelected.{list_ends}
 use Rattle.jr_local_plans.proofs.BodiesOnce.{Laws}
 
@@ -70,6 +73,17 @@ some_front (x ∷ xs) ys l = tt
 abbrev pub there_in : {b : statement.Stmts Span} {f : tree.Exp Span} → ListWay f b → In (λ (h : tree.Exp Span). ListWay h b)
 there_in {b} {f} d = record { value = f; way = d }
 
+-- behind other tokens, none of these begins at the first byte
+rises_from : (ps : Tokens) (lo : ℕ) → Rising ps → ((at : ℕ) → StartsIn ps at → lo ≤ at) → nesting.Rising lo ps
+rises_from [] lo r h = tt
+rises_from (p ∷ ps) lo r h = (h p.mark.from (inl refl), r.0, rises_from ps p.mark.to r.2 r.1)
+
+behind_first : (front run back : Tokens) → Rising (front ++ (run ++ back)) → Filled front → (at : ℕ) → StartsIn run at → 1 ≤ at
+behind_first front run back r filled at s =
+    let wide = to_last front (rising_front front (run ++ back) r) (first_from front) (starts_first front filled) in
+    let less = last_before front (run ++ back) r filled at (starts_in_front run back at s) in
+    omega (arith, wide, less)
+
 module _ (laws : Laws) (p : Program Span) (is : IsWhole p) (file : ℕ) (b : Body) (h : HasBody p file b) {f : tree.Exp Span} (d : ListWay f b.list) where
   abbrev el : Element f
   el = nearest begins b.at d
@@ -78,7 +92,8 @@ module _ (laws : Laws) (p : Program Span) (is : IsWhole p) (file : ℕ) (b : Bod
   record Behind : Type 0 where
     all : Tokens
     rises : Rising all
-    inner : Inner el.rest all
+    among : Among (Stands (stmts_layout el.rest)) all
+    filled : Filled among.front
 
   behind : Behind
   behind =
@@ -93,37 +108,39 @@ module _ (laws : Laws) (p : Program Span) (is : IsWhole p) (file : ℕ) (b : Bod
       record {
         all = placed_of g.0.text r.items;
         rises = tokens_rise g.0.text laws.items r.items r.lexes;
-        inner = record {
-          among = record {
-            front = held.among.front ++ parts.front;
-            part = parts.rest.front;
-            back = parts.rest.back ++ held.among.back;
-            whole = held.among.whole ∙ ap (λ y. held.among.front ++ (y ++ held.among.back)) (parts.whole ∙ ap (λ y. parts.front ++ y) parts.rest.whole) ∙ grouped held.among.front parts.front parts.rest.front parts.rest.back held.among.back;
-            stands = parts.rest.first;
-          };
-          filled = some_front held.among.front parts.front held.front;
+        among = record {
+          front = held.among.front ++ parts.front;
+          part = parts.rest.front;
+          back = parts.rest.back ++ held.among.back;
+          whole = held.among.whole ∙ ap (λ y. held.among.front ++ (y ++ held.among.back)) (parts.whole ∙ ap (λ y. parts.front ++ y) parts.rest.whole) ∙ grouped held.among.front parts.front parts.rest.front parts.rest.back held.among.back;
+          stands = parts.rest.first;
         };
+        filled = some_front held.among.front parts.front held.front;
       }
     where
       grouped : (a b c d e : Tokens) → a ++ ((b ++ (c ++ d)) ++ e) ≡ (a ++ b) ++ (c ++ (d ++ e))
       grouped a b c d e = simp append_assoc
 
-  nested : NestedBody el.rest
-  nested = inner_nested laws.nested el.rest behind.all behind.rises behind.inner
-
-  pub by_span : {g k : tree.Exp Span} (x : ListWay g el.rest) (y : ListWay k el.rest) → exp_mark g ≡ exp_mark k → there_in x ≡ there_in y
-  by_span {g} {k} x y same = laws.ways itself (record { from = 0; to = nested.to }) 1 el.rest nested.nested g k x y (list_ends 0 x ∙ same ∙ sym (list_ends 0 y))
-
   -- the tokens of the list
   abbrev run : Tokens
-  run = behind.inner.among.part
+  run = behind.among.part
 
   run_rises : Rising run
-  run_rises = piece_rises behind.all run behind.rises (record { front = behind.inner.among.front; back = behind.inner.among.back; whole = behind.inner.among.whole })
+  run_rises = piece_rises behind.all run behind.rises (record { front = behind.among.front; back = behind.among.back; whole = behind.among.whole })
+
+  abbrev whole : Span
+  whole = record { from = 0; to = end_from 1 run }
+
+  nested : ListNested itself whole 1 el.rest
+  nested = laws.nested itself whole 1 el.rest run (subst (λ l. Stands l run) (sym (spans_from-span 0 (stmts_layout el.rest))) behind.among.stands) (let one : 0 < 1 = omega arith in one)
+      (rises_from run 1 run_rises (behind_first behind.among.front run behind.among.back (subst Rising behind.among.whole behind.rises) behind.filled)) (let ends : end_from 1 run ≤ end_from 1 run = omega arith in ends)
+
+  pub by_span : {g k : tree.Exp Span} (x : ListWay g el.rest) (y : ListWay k el.rest) → exp_mark g ≡ exp_mark k → there_in x ≡ there_in y
+  by_span {g} {k} x y same = laws.ways itself whole 1 el.rest nested g k x y (list_ends 0 x ∙ same ∙ sym (list_ends 0 y))
 
   name_there : {g : tree.Exp Span} (x : ListWay g el.rest) (m : Span) (w : tree.Word Span) → g ≡ tree.name m w → EndsIn run (exp_mark g).from (exp_mark g).to
   name_there {g} x m w e =
-      let a : Among (Stands (exp_layout g)) run = list_among g el.rest x run behind.inner.among.stands in
+      let a : Among (Stands (exp_layout g)) run = list_among g el.rest x run behind.among.stands in
       subst (λ (k : tree.Exp Span). EndsIn run (exp_mark k).from (exp_mark k).to) (sym e) (name_ends m w run (subst (λ (k : tree.Exp Span). Among (Stands (exp_layout k)) run) e a))
 
   pub by_byte : {g k : tree.Exp Span} (x : ListWay g el.rest) (y : ListWay k el.rest) (m n : Span) (v w : tree.Word Span) → g ≡ tree.name m v → k ≡ tree.name n w → (exp_mark g).from ≡ (exp_mark k).from → there_in x ≡ there_in y
