@@ -1,0 +1,5 @@
+pub mod SoughtValues
+pub mod ValueView
+pub mod Chosen
+pub mod Extracts
+pub mod ExtractView
