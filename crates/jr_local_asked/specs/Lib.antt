@@ -1,0 +1,4 @@
+pub mod Declaring
+pub mod DeclaredView
+pub mod Asking
+pub mod AskedView
