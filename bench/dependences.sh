@@ -4,7 +4,8 @@
 #
 # One file of a quarter, a half and the whole of 1 MiB, of each shape: a method of 1,000 sites whose
 # names are long; methods of 1,000 sites, from each of which edges lead to all that follow; a method
-# of so many casts, which has too many sites; methods that have the most lines; and ordinary members.
+# of so many casts, which has too many sites; methods that have the most lines; methods that take
+# the most memory; and ordinary members.
 # Milliseconds of a processor for a whole process, the least of three, or of so many, runs: of the
 # show of dependences, and of that of bindings; the most in memory, in MiB; and what the show of
 # dependences is answered, or how many bytes its report has.
@@ -45,6 +46,10 @@ program() {
             printf "class A{volatile int v;"
             members("void m#(){while(true){" times("v++;", 499) "}}", most - 24)
             printf "}"
+        } else if (shape == "memory") {
+            printf "class A{int f;int g;"
+            members("void m#(){" times("g=f" times("/f", 70) ";", 7) "}", most - 21)
+            printf "}"
         } else {
             printf "class A{"
             members("int f#=#;int m#(int a,A b){int c=a+b.f#*#;while(c<a){c=c+this.f#;}" \
@@ -67,7 +72,7 @@ answer() {
 
 step bindings
 step dependences
-for shape in long dense casts lines ordinary; do
+for shape in long dense casts lines memory ordinary; do
     for size in 262144 524288 1048576; do
         program $shape $size > A.java
         bound=$(processor "$runs" "$jref" run bindings.json A.java)

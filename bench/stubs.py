@@ -220,7 +220,11 @@ def main(src, to, target, *words):
                             CITED.setdefault(crate, set()).add(cited)
     for it in below:
         put(place.get(it, f"{src}/crates/{it}"), f"{to}/crates/{it}", False)
-    subprocess.run([sys.executable, os.path.join(os.path.dirname(os.path.abspath(__file__)), "linkfrom.py"), to], stdout=subprocess.DEVNULL)
+    here = os.path.dirname(os.path.abspath(__file__))
+    quiet = {"stdout": subprocess.DEVNULL, "stderr": subprocess.DEVNULL}
+    # a kit that keeps nothing has no kept libraries: those of clones beside it then
+    if subprocess.run([sys.executable, os.path.join(here, "linkfrom.py"), to], **quiet).returncode:
+        subprocess.run([sys.executable, f"{to}/bench/clones.py", "links"], cwd=to, **quiet)
     built = {it for it in below if os.path.exists(f"{to}/crates/{it}/out/rlib/{it}.rlib")}
     # what lies beside a stripped crate is no longer built over it
     for it in [l.split(":")[0].strip() for l in lines]:

@@ -55,11 +55,11 @@ module _ (A : Type 0) where
       let row = exprs_in (expr.SuperCall i args) in
       ap (tree.super_call m (word_of i)) (expr_row-list row.0 row.1 ∙ ap exprs_of (expr.items_hidden-the_row-Expr-0 A args))
 
-  pub expr_kind-New : (m : A) (t : TypeRef A) (args : Vec (Expr A) Global) → expr_kind m (expr.New t args) ≡ tree.create m (type_of t) (exprs_of args.items)
+  pub expr_kind-New : (m : A) (t : Box (TypeRef A) Global) (args : Vec (Expr A) Global) → expr_kind m (expr.New t args) ≡ tree.create m (type_of t.value) (exprs_of args.items)
   unfolding expr_kind expr_row held_target
   expr_kind-New m t args =
       let row = exprs_in (expr.New t args) in
-      ap (tree.create m (type_of t)) (expr_row-list row.0 row.1 ∙ ap exprs_of (expr.items_hidden-the_row-Expr-0 A args))
+      ap (tree.create m (type_of t.value)) (expr_row-list row.0 row.1 ∙ ap exprs_of (expr.items_hidden-the_row-Expr-0 A args))
 
   pub stmt_row-list : (n : _) (row : stmt.Row_of-Stmt A n) → stmt_row row ≡ stmts_of (stmt.items-the_row-Stmt A n row)
   unfolding stmt_kind stmt_row held_else

@@ -15,7 +15,8 @@ pub struct Expr<A> {
     pub kind: ExprKind<A>,
 }
 
-/// The kinds of expressions.
+/// The kinds of expressions. Types of `new` and of casts, which are few, have places of their own, so
+/// that all others take less room.
 #[cycle(expr)]
 #[derive(Drop)]
 pub enum ExprKind<A> {
@@ -32,9 +33,9 @@ pub enum ExprKind<A> {
     /// What the call is made on, if anything is written, then the method and the arguments.
     Call(Option<Box<Expr<A>>>, Ident<A>, Vec<Expr<A>>),
     SuperCall(Ident<A>, Vec<Expr<A>>),
-    New(TypeRef<A>, Vec<Expr<A>>),
+    New(Box<TypeRef<A>>, Vec<Expr<A>>),
     Paren(Box<Expr<A>>),
-    Cast(TypeRef<A>, Box<Expr<A>>),
+    Cast(Box<TypeRef<A>>, Box<Expr<A>>),
     Unary(UnOp, Box<Expr<A>>),
     Bump(BumpOp, Box<Expr<A>>),
     Binary(BinOp, Box<Expr<A>>, Box<Expr<A>>),
@@ -179,8 +180,8 @@ impl<A> Expr<A> {
 
     /// `new ty(args)` (JLS 15.9).
     #[tactic(auto, unfolding(crate::specs::View::expr_kind))]
-    pub fn create(mark: A, ty: TypeRef<A>, args: Vec<Expr<A>>) -> Expr<A>
-        ensures { expr_of result ≡ tree.create mark (type_of ty) (exprs_of args.items) }
+    pub fn create(mark: A, ty: Box<TypeRef<A>>, args: Vec<Expr<A>>) -> Expr<A>
+        ensures { expr_of result ≡ tree.create mark (type_of ty.value) (exprs_of args.items) }
     {
         Expr {
             mark,
@@ -201,8 +202,8 @@ impl<A> Expr<A> {
 
     /// `(ty) of` (JLS 15.16).
     #[tactic(auto, unfolding(crate::specs::View::expr_kind))]
-    pub fn cast(mark: A, ty: TypeRef<A>, of: Box<Expr<A>>) -> Expr<A>
-        ensures { expr_of result ≡ tree.cast mark (type_of ty) (expr_of of.value) }
+    pub fn cast(mark: A, ty: Box<TypeRef<A>>, of: Box<Expr<A>>) -> Expr<A>
+        ensures { expr_of result ≡ tree.cast mark (type_of ty.value) (expr_of of.value) }
     {
         Expr {
             mark,

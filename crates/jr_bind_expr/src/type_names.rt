@@ -158,3 +158,24 @@ pub fn written_type<A: Mark>(
         }
     }
 }
+
+/// The same of a type in a box.
+pub(crate) fn boxed_type<A: Mark>(
+    table: &Table,
+    place: &Place<'_>,
+    base: u32,
+    of: &Box<TypeRef<A>>,
+    log: &mut Vec<Note>,
+) -> Result<Option<Kind>, AllocError>
+    requires knows { Knows table.now place.now }
+    requires fits { FitsType (λ m b. (A.span_from m b).from) A.fits_at base
+        (type_of of.now.value) }
+    ensures kind { IfOk result (λ t. t ≡ option_map (kind_of table.now)
+        (written_type table.now (scope_of (context_of place.now)) (type_of of.now.value))) }
+    ensures notes { IfOk result (λ _. notes_of table.now (member_of place.now) log.new.items
+        ≡ notes_of table.now (member_of place.now) log.old.items
+        ++ reference_notes (type_references (λ m b. (A.span_from m b).from) table.now
+        (context_of place.now) base (type_of of.now.value))) }
+{
+    written_type(table, place, base, of, log)
+}

@@ -26,7 +26,7 @@ use crate::names::simple;
 use crate::notes::put_when;
 use crate::operators::{assign, binary, bump, cast, compound, unary};
 use crate::places::Place;
-use crate::type_names::written_type;
+use crate::type_names::{boxed_type, written_type};
 use crate::typing::{close_expr, put_leaf};
 use jr_ast::{Expr, ExprKind, TypeRef};
 use jr_expr_types::Types;
@@ -168,7 +168,7 @@ fn walk_parts<A: Mark>(
         }
         ExprKind::New(ty, args) => {
             put_leaf(types)?;
-            let kind = written_type(table, place, at, ty, log)?;
+            let kind = boxed_type(table, place, at, ty, log)?;
             let kinds = walk_args(alloc, table, place, at, args, log, types)?;
             create(alloc, table, place, at, kind, &kinds, log)
         }
@@ -178,7 +178,7 @@ fn walk_parts<A: Mark>(
         }
         ExprKind::Cast(ty, part) => {
             put_leaf(types)?;
-            let kind = written_type(table, place, at, ty, log)?;
+            let kind = boxed_type(table, place, at, ty, log)?;
             let of = walk_expr(alloc, table, place, Role::Value, at, part, log, types)?;
             cast(table, place, at, kind, of, log)
         }

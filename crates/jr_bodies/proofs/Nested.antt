@@ -95,7 +95,7 @@ behind_call ps h =
     let a = among_rest ps h (λ qs k. among_rest qs k (λ rs l. among_first rs l all_there)) in
     record { among = a; filled = open_filled h.front (h.rest.front ++ []) h.first }
 
-member_list : (k : MemberKey) (base : ℕ) (part : Part Span) (bound : Bound) (b : Body) → body_of k base part bound ≡ Some b → (ps : Tokens) → StandsPart part ps → Inner b.list ps
+pub member_list : (k : MemberKey) (base : ℕ) (part : Part Span) (bound : Bound) (b : Body) → body_of k base part bound ≡ Some b → (ps : Tokens) → StandsPart part ps → Inner b.list ps
 member_list k base (class_part c) bound b e ps h = absurd (no_body b e)
 member_list k base (member_part (syntax.field m mods t w init)) bound b e ps h = absurd (no_body b e)
 member_list k base (member_part (syntax.inner m c)) bound b e ps h = absurd (no_body b e)
@@ -108,7 +108,7 @@ member_list k base (member_part (syntax.constructor m mods w qs args body)) boun
 
 -- ---- nested spans
 
-rises_from : (ps : Tokens) (lo : ℕ) → Rising ps → ((at : ℕ) → StartsIn ps at → lo ≤ at) → nesting.Rising lo ps
+pub rises_from : (ps : Tokens) (lo : ℕ) → Rising ps → ((at : ℕ) → StartsIn ps at → lo ≤ at) → nesting.Rising lo ps
 rises_from [] lo r h = tt
 rises_from (p ∷ ps) lo r h = (h p.mark.from (inl refl), r.0, rises_from ps p.mark.to r.2 r.1)
 
@@ -121,7 +121,7 @@ parts_rise front part back r filled = rises_from part 1 (rising_front part back 
         let behind : last_to front ≤ at = last_before front (part ++ back) r filled at (in_front part back at s) in
         omega (arith, wide, behind)
 
-inner_nested : StandingListsAreNested Span → (b : statement.Stmts Span) (ps : Tokens) → Rising ps → Inner b ps → IsNested b
+pub inner_nested : StandingListsAreNested Span → (b : statement.Stmts Span) (ps : Tokens) → Rising ps → Inner b ps → IsNested b
 inner_nested law b ps r i =
     let whole : Tokens = i.among.part in
     let there = subst (λ l. Stands l whole) (sym (spans_from-span 0 (stmts_layout b))) i.among.stands in

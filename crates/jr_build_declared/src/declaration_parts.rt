@@ -117,8 +117,8 @@ pub fn param_declarations<'a, A: Mark>(
 }
 
 /// Whether it is the type `Object`.
-fn names_object<A: Mark>(ty: &TypeRef<A>) -> bool
-    ensures { result ≡ is_object (begins_by A.span_from) (type_of ty.now) }
+fn names_object<A: Mark>(ty: &Box<TypeRef<A>>) -> bool
+    ensures { result ≡ is_object (begins_by A.span_from) (type_of ty.now.value) }
 {
     match &ty.kind {
         TypeKind::Named(None, name) => name.name.as_str() == "Object",

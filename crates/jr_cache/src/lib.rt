@@ -7,14 +7,18 @@
 //! given what was bound before. Where two tables are apart by names alone, a member of a file that
 //! stays, whose key is the earlier one's and which avoids the names (`sparing`), keeps its bound;
 //! each other is bound. Where tables differ in more, or members are more or fewer, all are bound.
-//! That bounds are kept at all is measured and not promised. It knows no refactoring.
+//! That bounds are kept at all is measured and not promised. `former`: what was bound before can be
+//! had back, exactly and without memory, as long as what is bound now is whole. It knows no
+//! refactoring.
 #![tactic(auto)]
 
 mod changed;
+mod former;
 mod laws;
 mod rebinding;
 mod sparing;
 
 pub use changed::ChangedProgram;
+pub use former::{Former, Replaced};
 pub use laws::bounds_last;
 pub use rebinding::rebind_members;

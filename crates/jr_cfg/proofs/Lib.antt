@@ -5,7 +5,7 @@
 mod Standing
 mod Limbs
 pub mod StepLaws
-mod NumberAt
+pub mod NumberAt
 mod BareWays
 mod Bodies
 mod ModifierWords

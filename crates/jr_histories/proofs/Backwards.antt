@@ -129,7 +129,7 @@ module _ {K : Keys} (r : KeyMap K) where
   made_image (create o) = number_image o
   made_image (start o v) = refl
 
-  default_image : (T : Ty K) → default_of (type_image r T) ≡ value_image r (default_of T)
+  pub default_image : (T : Ty K) → default_of (type_image r T) ≡ value_image r (default_of T)
   default_image int_type = refl
   default_image boolean_type = refl
   default_image (reference c) = refl
@@ -147,7 +147,7 @@ module _ {K : Keys} (r s : KeyMap K) (u : Undoes r s) where
   location_back (part o f) = λ i. part (value_back r s u o i) (u.field f i)
   location_back (shared f) = ap shared (u.field f)
 
-  action_back : (a : Action K) → action_image s (action_image r a) ≡ a
+  pub action_back : (a : Action K) → action_image s (action_image r a) ≡ a
   action_back (load k at v) = λ i. load k (location_back at i) (value_back r s u v i)
   action_back (store k at v) = λ i. store k (location_back at i) (value_back r s u v i)
   action_back (enter o) = ap enter (value_back r s u o)
@@ -155,7 +155,7 @@ module _ {K : Keys} (r s : KeyMap K) (u : Undoes r s) where
   action_back (create o) = ap create (value_back r s u o)
   action_back (start o v) = λ i. start (value_back r s u o i) (value_back r s u v i)
 
-  trace_back : (t : Trace K) → trace_image s (trace_image r t) ≡ t
+  pub trace_back : (t : Trace K) → trace_image s (trace_image r t) ≡ t
   trace_back [] = refl
   trace_back (a ∷ t) = λ i. action_back a i ∷ trace_back t i
 

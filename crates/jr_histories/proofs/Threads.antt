@@ -15,11 +15,11 @@ module _ {K : Keys} (r : KeyMap K) (R R' : Rows K) (rows : SameRows r R R') wher
   one : (x y : K.class) → Some x ≡ Some y → x ≡ y
   one x y e = cc
 
-  found_to : (m : K.method) (o : Option K.method) → unwrap_or (option_map r.method o) (r.method m) ≡ r.method (unwrap_or o m)
+  pub found_to : (m : K.method) (o : Option K.method) → unwrap_or (option_map r.method o) (r.method m) ≡ r.method (unwrap_or o m)
   found_to m None = refl
   found_to m (Some k) = refl
 
-  same_runs : (run : K.method) → IsTrue (R.has_method run) → (o : Value K) (c d : Start K) → Runs R run (started o) c → Runs R' (r.method run) (started (value_image r o)) d → d ≡ start_image r c
+  pub same_runs : (run : K.method) → IsTrue (R.has_method run) → (o : Value K) (c d : Start K) → Runs R run (started o) c → Runs R' (r.method run) (started (value_image r o)) d → d ≡ start_image r c
   same_runs run has o c d p q =
       let k : q.0 ≡ r.class p.0 = one q.0 (r.class p.0) (sym q.1 ∙ class_of_image r R R' (declarations r R R' rows) o ∙ ap (option_map r.class) p.1) in
       let m : unwrap_or (R'.dispatch q.0 (r.method run)) (r.method run) ≡ r.method (unwrap_or (R.dispatch p.0 run) run) =

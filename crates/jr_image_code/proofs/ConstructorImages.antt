@@ -32,7 +32,7 @@ use Rattle.jr_images.proofs.Forms.{one_form}
 use Rattle.jr_code.proofs.OneFound.{super_once as one_super}
 use Rattle.jr_kept_references.proofs.RegionWorlds.{RegionWorld}
 use Rattle.jr_kept_references.proofs.RegionTypes.{to_scope}
-use Rattle.jr_kept_references.specs.InRegions.{rows_in, ctor_in, member_in, scope_in, StandsFor}
+use Rattle.jr_kept_references.specs.InRegions.{rows_in, ctor_in, member_in, StandsFor}
 use Rattle.jr_kept_references.specs.KeptInRegions.{PartsBecome}
 use Rattle.jr_kept_references.specs.RegionPlaces.{Standing, AreStanding, AreBeginning}
 use Rattle.jr_kept_references.proofs.RegionExpressions.{kept_row}
@@ -41,21 +41,21 @@ use Rattle.jr_code.specs.RunRows.{HasRow}
 use Rattle.jr_code.specs.CodedStatements.{StatementCode, ListCode, StmtsCode}
 use Rattle.jr_code.specs.CodedMembers.{ImplicitFinds, ParentCoded, ConstructorCoded}
 use Rattle.jr_image_code.specs.KnownPlaces.{IsKnown, IsPlace}
-use Rattle.jr_image_code.specs.KeysIn.{CastsStay}
 use Rattle.jr_image_code.specs.CodeRelations.{Relations, AreStmtsRelated}
-use Rattle.jr_image_code.specs.CodedSpots.{GoesByImages, SpotsCoded, AreBelow, StatementsCoded}
+use Rattle.jr_image_code.specs.CodedSpots.{CastsCoded, GoesByImages, SpotsCoded, AreBelow, StatementsCoded}
 use Rattle.jr_image_code.specs.MemberCodes.{CodesTo, AllTo}
 use Rattle.jr_image_code.proofs.ExpImages.{shown_row, row_images}
-use Rattle.jr_image_code.proofs.StmtImages.{HasNoRows, number_below, list_images}
+use Rattle.jr_image_code.proofs.StmtImages.{HasNoRows, list_images}
 use Rattle.jr_image_code.proofs.MemberImages.{Of, params_below, place_of, same_length}
 
-module _ {A : Type 0} (tells : A → ℕ → Span) (last : A → ℕ → ℕ) (rows : List Row) (R : Region A) (super_at : Context → ℕ) (S : Spotted A) (parts : PartsBecome (λ m b. (tells m b).from) rows R S) (At : Standing)
+module _ {A : Type 0} (tells : A → ℕ → Span) (last : A → ℕ → ℕ) (rows : List Row) (R : Region A) (super_at : Context → ℕ) (S : Spotted A) (At : Standing A)
     (stands : AreStanding tells rows R (choosing (λ m b. (tells m b).from) rows R super_at) S At) (begin : AreBeginning tells rows R (choosing (λ m b. (tells m b).from) rows R super_at) S At)
-    (worlds : (c d : Context) → StandsFor R rows c d → RegionWorld A rows R c d)
+    (parts : (c d : Context) → At.Known c d → PartsBecome (λ m b. (tells m b).from) rows R S c d) (worlds : (c d : Context) → StandsFor R rows c d → RegionWorld A rows R c d)
     (keys : KeyMap RunKeys) (D : core_rows.Rows RunKeys) (X : Relations) (by_images : GoesByImages rows R keys D X) (stmts : AreStmtsRelated keys D X) (no_rows : HasNoRows rows)
-    (casts : (c : Context) → IsPlace rows c → CastsStay rows R c) (spots : SpotsCoded (λ m b. (tells m b).from) rows R X S) (size : ℕ)
+    (casts : (c d : Context) → IsPlace rows c → At.Known c d → CastsCoded tells rows R X (choosing (λ m b. (tells m b).from) rows R super_at) S c d)
+    (spots : (c d : Context) → At.Known c d → SpotsCoded (λ m b. (tells m b).from) rows R X S c d) (size : ℕ)
     (coded : StatementsCoded tells last rows R X (choosing (λ m b. (tells m b).from) rows R super_at) S At size) (own : X.own) (places places' : MemberKey → ℕ)
-    (old_are : AreRows rows) (implicit : (c d : Context) → scope_of d ≡ scope_in R c → (q n : CtorKey) → ImplicitFinds rows c q → ImplicitFinds (rows_in R) d n → n ≡ ctor_in R q) where
+    (old_are : AreRows rows) (implicit : (c d : Context) → At.Known c d → (q n : CtorKey) → ImplicitFinds rows c q → ImplicitFinds (rows_in R) d n → n ≡ ctor_in R q) where
   abbrev begins : A → ℕ → ℕ
   begins m b = (tells m b).from
 
@@ -70,8 +70,11 @@ module _ {A : Type 0} (tells : A → ℕ → Span) (last : A → ℕ → ℕ) (r
 
   -- ---- `super(..)`
 
-  super_once : (c d : Context) (stand : StandsFor R rows c d) (es : tree.Exps A) (x y : Decl) → SuperCtorFinds (rows_in R) d es (one x) → SuperCtorFinds (rows_in R) d es (one y) → x ≡ y
-  super_once c d stand es x y a b = let w = worlds c d stand in one_super (rows_in R) w.images.are w.one_new d w.new es x y a b
+  world : (c d : Context) → At.Known c d → RegionWorld A rows R c d
+  world c d stand = worlds c d (stands.stand c d stand)
+
+  super_once : (c d : Context) (stand : At.Known c d) (es : tree.Exps A) (x y : Decl) → SuperCtorFinds (rows_in R) d es (one x) → SuperCtorFinds (rows_in R) d es (one y) → x ≡ y
+  super_once c d stand es x y a b = let w = world c d stand in one_super (rows_in R) w.images.are w.one_new d w.new es x y a b
 
   super_row : (c : Context) (args : tree.Exps A) (q : CtorKey) → SuperCtorFinds rows c args (one (constructor_decl q)) → (j : ℕ) × IsRowOf rows (constructor_decl q) j
   super_row c args q (inl (k, over, inl (ts, types, (a, finds, shows)))) = shown_row rows a (constructor_decl q) shows
@@ -83,14 +86,14 @@ module _ {A : Type 0} (tells : A → ℕ → Span) (last : A → ℕ → ℕ) (r
   implicit_row c q (inr (not, is)) = absurd cc
 
   -- what a written one finds
-  super_found : (c d : Context) (stand : StandsFor R rows c d) (args es : tree.Exps A) → ((ts : List Ty) → HaveTypes rows c args ts → HaveTypes (rows_in R) d es (R.types_now c args ts))
+  super_found : (c d : Context) (stand : At.Known c d) (args es : tree.Exps A) → ((ts : List Ty) → HaveTypes rows c args ts → HaveTypes (rows_in R) d es (R.types_now c args ts))
       → (h : Choice) → SuperCtorChoice (λ m b. (tells m b).from) rows R (super_at c) c args h → losses_of h ≡ [] → (q n : CtorKey)
       → SuperCtorFinds rows c args (one (constructor_decl q)) → SuperCtorFinds (rows_in R) d es (one (constructor_decl n)) → ((k : CtorKey) (ts : List Ty) → SuperCtorFinds rows c args (one (constructor_decl k)) → k ≡ q)
       → n ≡ ctor_in R q
   super_found c d stand args es args_to h (k, ts, finds, types, inl (f, taken, is)) none q n old new same =
       let there = one_form (λ f. Binds (rows_in R) (scope_of d) (reference ref.AsAsked [] None (R.types_now c args ts)) (constructor_decl (ctor_in R k)) f → SuperCtorFinds (rows_in R) d es (one (constructor_decl (ctor_in R k))))
       (λ (p, over, found). inl (p, over, inl (R.types_now c args ts, args_to ts types, found)))
-      taken.place f taken.stands (to_scope tells rows R c d (worlds c d stand) (reference ref.AsAsked [] None (R.types_now c args ts)) (constructor_decl (ctor_in R k)) f taken.binds) in
+      taken.place f taken.stands (to_scope tells rows R c d (world c d stand) (reference ref.AsAsked [] None (R.types_now c args ts)) (constructor_decl (ctor_in R k)) f taken.binds) in
       let p = super_once c d stand es (constructor_decl n) (constructor_decl (ctor_in R k)) new there in
       let ctor : n ≡ ctor_in R k = cc in
       ctor ∙ ap (ctor_in R) (same k ts finds)
@@ -104,32 +107,31 @@ module _ {A : Type 0} (tells : A → ℕ → Span) (last : A → ℕ → ℕ) (r
       (subst (λ (z : CtorKey). X.exp (core.super_constructor p (core.this None) q es) (core.super_constructor o (core.this None) z fs)) (by_images.maps.constructor q j row ∙ sym is)
       (by_images.exps.of_super_constructor p o (core.this None) (core.this None) q es fs (by_images.has.constructor q j row) (by_images.exps.of_this own None None) args))))
 
-  parent_image : (k : CtorKey) (n z : ℕ) (c d : Context) → At n z c d → AreBelow size c.locals → IsPlace rows c → (base : ℕ) (args : Option (tree.Exps A)) (o : Rewritten (Option (tree.Exps A))) → TransformsSuper tells Chosen S c base args o → o.losses ≡ []
+  parent_image : (k : CtorKey) (c d : Context) → At.Known c d → AreBelow size c.locals → IsPlace rows c → (base : ℕ) (args : Option (tree.Exps A)) (o : Rewritten (Option (tree.Exps A))) → TransformsSuper tells Chosen S c base args o → o.losses ≡ []
       → (i : ℕ) (p q : Place) (s t : StatementCode) → ParentCoded begins last rows places k c base p args s → ParentCoded begins last (rows_in R) places' (ctor_in R k) d i q o.tree t → X.stmt s t
-  parent_image k n z c d at below place base None o is none i p q s t (x, finds, old) new =
+  parent_image k c d stand below place base None o is none i p q s t (x, finds, old) new =
       let there = subst (λ (z : Rewritten (Option (tree.Exps A))). ParentCoded begins last (rows_in R) places' (ctor_in R k) d i q z.tree t) is new in
       let row = implicit_row c x finds in
-      parent_by x there.0 row.0 row.1 (implicit c d (stands.for_it n z c d at).scope x there.0 finds there.1) (Some p) (Some q) core.Exps.end core.Exps.end by_images.exps.of_no_exps s t old there.2
-  parent_image k n z c d at below place base (Some args) o (h, v, spells, made, is) none i p q s t (x, es, finds, codes, old) new =
+      parent_by x there.0 row.0 row.1 (implicit c d stand x there.0 finds there.1) (Some p) (Some q) core.Exps.end core.Exps.end by_images.exps.of_no_exps s t old there.2
+  parent_image k c d stand below place base (Some args) o (h, v, spells, made, is) none i p q s t (x, es, finds, codes, old) new =
       let there = subst (λ (y : Rewritten (Option (tree.Exps A))). ParentCoded begins last (rows_in R) places' (ctor_in R k) d i q y.tree t) is new in
       let all = lost_none o _ is none in
       let inner = right_none (losses_of h) v.losses all in
-      let stand = stands.for_it n z c d at in
-      let w = worlds c d stand in
+      let w = world c d stand in
       let row = super_row c args x finds in
       parent_by x there.0 row.0 row.1
-      (super_found c d stand args v.tree (λ ts have. kept_row tells rows R c d w super_at S parts base args v made inner ts (R.types_now c args ts) (w.args c args ts) have) h spells (left_none (losses_of h) v.losses all) x there.0 finds there.2
+      (super_found c d stand args v.tree (λ ts have. kept_row tells rows R c d w super_at S (parts c d stand) base args v made inner ts (R.types_now c args ts) (w.args c args ts) have) h spells (left_none (losses_of h) v.losses all) x there.0 finds there.2
       (λ j ts found. let e = one_super rows old_are w.one_old c w.old args (constructor_decl j) (constructor_decl x) found finds in cc))
       (Some _) (Some _) es there.1
-      (row_images tells rows R c d w keys D X by_images (λ l m name found image. coded.locals n z c d at l m (number_below rows no_rows size c below l name found) image) (casts c place) super_at S parts spots base args v made inner i es there.1 codes there.3)
+      (row_images tells rows R c d w keys D X by_images (coded.locals c d stand below) super_at S (casts c d place stand) (parts c d stand) (spots c d stand) base args v made inner i es there.1 codes there.3)
       s t old there.4
 
   pub constructor_image : (k : CtorKey) → HasRow rows (class_decl k.class) → ((t : Ty) → Of t k.params → IsKnown rows t)
-      → (base : ℕ) (m : A) (mods : List (syntax.Modifier A)) (w : tree.Word A) (ps : List (syntax.Param A)) (args : Option (tree.Exps A)) (body : statement.Stmts A) → length ps + locals_in_row body ≤ size
+      → (base : ℕ) (m : A) (mods : List (syntax.Modifier A)) (w : tree.Word A) (ps : List (syntax.Param A)) (args : Option (tree.Exps A)) (body : statement.Stmts A) → At.Written (member.constructor k) base (syntax.constructor m mods w ps args body) → length ps + locals_in_row body ≤ size
       → (o : Rewritten (syntax.Member A)) → TransformsMember tells Chosen S (member.constructor k) base (syntax.constructor m mods w ps args body) o → o.losses ≡ [] → (i : ℕ) (ss ts : List StatementCode)
       → AllTo X ss ts → (x y : core.Code RunKeys)
       → ConstructorCoded begins last rows places k base ss (syntax.constructor m mods w ps args body) x → ConstructorCoded begins last (rows_in R) places' (ctor_in R k) i ts o.tree y → CodesTo X size x y
-  constructor_image k row types base m mods w ps args body fits o (v, q, p, z, declared, params, super_part, made, is) none i ss ts inits x y (s, l, parent, code, old) new =
+  constructor_image k row types base m mods w ps args body here fits o (v, q, p, z, declared, params, super_part, made, is) none i ss ts inits x y (s, l, parent, code, old) new =
       let all = lost_none o (joined (λ (u : tree.Word A × List (syntax.Param A)) (x : Option (tree.Exps A) × statement.Stmts A). syntax.constructor m mods u.0 u.1 x.0 x.1) (joined (λ u x. (u, x)) v q) (joined (λ u x. (u, x)) p z)) is none in
       let back = right_none (v.losses ++ q.losses) (p.losses ++ z.losses) all in
       let n = subst (λ (u : Rewritten (syntax.Member A)). ConstructorCoded begins last (rows_in R) places' (ctor_in R k) i ts u.tree y) is new in
@@ -141,11 +143,11 @@ module _ {A : Type 0} (tells : A → ℕ → Span) (last : A → ℕ → ℕ) (r
         count,
         no_more,
         stmts.of_more_stmts s n.0 (in_front ss l) (in_front ts n.1)
-            (parent_image k (length ps) (length ps) (with_parameters (member.constructor k) true ps) (with_parameters (member_in R (member.constructor k)) true q.tree) (begin.parameters (member.constructor k) true _ ps q params)
+            (parent_image k (with_parameters (member.constructor k) true ps) (with_parameters (member_in R (member.constructor k)) true q.tree) (begin.super_args (member.constructor k) base m mods w ps args body q here params)
             below (place_of rows (member.constructor k) true ps row types) _ args p super_part (left_none p.losses z.losses back) _ _ _ s n.0 parent n.2)
             (in_front_image ss ts l n.1 inits
-            (list_images tells last rows R super_at S parts At stands worlds keys D X by_images stmts no_rows casts spots size coded (length ps) (length ps)
-            (with_parameters (member.constructor k) false ps) (with_parameters (member_in R (member.constructor k)) false q.tree) (begin.parameters (member.constructor k) false _ ps q params)
-            below (place_of rows (member.constructor k) false ps row types) _ body z made (right_none p.losses z.losses back) fits _ l n.1 code
+            (list_images tells last rows R super_at S At stands parts worlds keys D X by_images stmts no_rows casts spots size coded (length ps) (length ps)
+            (with_parameters (member.constructor k) false ps) (with_parameters (member_in R (member.constructor k)) false q.tree) _ body (begin.constructor (member.constructor k) base m mods w ps args body q here params)
+            below (place_of rows (member.constructor k) false ps row types) z made (right_none p.losses z.losses back) fits _ l n.1 code
             (subst (λ (j : ℕ). StmtsCode begins last (rows_in R) j (with_parameters (member_in R (member.constructor k)) false q.tree) ((tells m i).from) z.tree n.1) count n.3))),
       ))

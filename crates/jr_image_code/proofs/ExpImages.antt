@@ -29,7 +29,7 @@ use Rattle.jr_rewrite.specs.Respellings.{Choice, front_of}
 use Rattle.jr_rewrite.specs.Rewritten.{Rewritten, plain, within, joined, losses_of, word_out, name_out, field_out, super_field_out, simple_call_out, dotted_call_out, operand_losses, Called}
 use Rattle.jr_rewrite.specs.Spots.{Asks, level, a_target, operand_asks, Spotted, nowhere, spotted, OrThis, OrPart}
 use Rattle.jr_rewrite.specs.Rewrites.{Choosing, TransformsExp, TransformsTarget, TransformsRow, TransformsPart}
-use Rattle.jr_images.specs.Regions.{image_at, Region}
+use Rattle.jr_images.specs.Regions.{Region}
 use Rattle.jr_images.specs.Spelling.{choosing, reference, operand_of, CreationChoice}
 use Rattle.jr_images.proofs.Chosen.{lost_some, left_none, right_none, lost_none}
 use Rattle.jr_images.proofs.Forms.{one_form}
@@ -44,9 +44,8 @@ use Rattle.jr_kept_references.proofs.RegionWorlds.{RegionWorld}
 use Rattle.jr_code.specs.RunKeys.{RunKeys, Place}
 use Rattle.jr_code.specs.Coded.{Code, TargetCode, IsOwn, FieldCode, VariableCode, CastCode, place, ExpCode, TargetOf, RowCode}
 use Rattle.jr_image_code.specs.KnownPlaces.{IsKnown}
-use Rattle.jr_image_code.specs.KeysIn.{CastsStay}
 use Rattle.jr_image_code.specs.CodeRelations.{Relations, IsFreeTarget, AreExpsRelated}
-use Rattle.jr_image_code.specs.CodedSpots.{GoesByImages, LocalsStay, ThisStays, PartStays, IsOnThis, IsLocal, ExpsCoded, AreCoded, SpotsCoded}
+use Rattle.jr_image_code.specs.CodedSpots.{CastIs, CastsCoded, GoesByImages, LocalsStay, ThisStays, PartStays, IsOnThis, IsLocal, ExpsCoded, AreCoded, SpotsCoded}
 use Rattle.jr_image_code.proofs.References.{exps_by}
 use Rattle.jr_image_code.proofs.VariableImages.{local_goals, own_field_goals, class_goals, super_field_goals, field_goals, member_class_goals}
 use Rattle.jr_image_code.proofs.CallImages.{RowGoal, simple_call_goal, super_call_goal, dotted_call_goal}
@@ -84,8 +83,9 @@ module _ (r : KeyMap RunKeys) (D : core_rows.Rows RunKeys) (X : Relations) (all 
   operation_image p q op.Rem a x b z f h = all.of_binary (Some p) (Some q) (core.arithmetic core.remainder) a x b z f h
 
 module _ {A : Type 0} (tells : A → ℕ → Span) (rows : List Row) (R : Region A) (c d : Context) (w : RegionWorld A rows R c d)
-    (keys : KeyMap RunKeys) (D : core_rows.Rows RunKeys) (X : Relations) (by_images : GoesByImages rows R keys D X) (locals : LocalsStay rows R X c) (casts : CastsStay rows R c)
-    (super_at : Context → ℕ) (S : Spotted A) (parts : PartsBecome (λ m b. (tells m b).from) rows R S) (spots : SpotsCoded (λ m b. (tells m b).from) rows R X S) where
+    (keys : KeyMap RunKeys) (D : core_rows.Rows RunKeys) (X : Relations) (by_images : GoesByImages rows R keys D X) (locals : LocalsStay rows R X c)
+    (super_at : Context → ℕ) (S : Spotted A) (casts : CastsCoded tells rows R X (choosing (λ m b. (tells m b).from) rows R super_at) S c d)
+    (parts : PartsBecome (λ m b. (tells m b).from) rows R S c d) (spots : SpotsCoded (λ m b. (tells m b).from) rows R X S c d) where
   abbrev Chosen : Choosing A
   Chosen = choosing (λ m b. (tells m b).from) rows R super_at
 
@@ -152,24 +152,33 @@ module _ {A : Type 0} (tells : A → ℕ → Span) (rows : List Row) (R : Region
 
   module _ (e y : tree.Exp A) (t u : tree.TypeName A) (typed : (k : Ty) → HasType rows c e k → HasType (rows_in R) d y (R.type_now c e k))
       (type_goes : (k : Ty) → WritesType rows (scope_of c) t k → WritesType (rows_in R) (scope_of d) u (type_in R k)) where
-    cast_pair : (a b n o : Ty) (p q : Place) (z s x v : Code) → HasType rows c e a → WritesType rows (scope_of c) t b → HasType (rows_in R) d y n → WritesType (rows_in R) (scope_of d) u o
+    type_from : (a n : Ty) → HasType rows c e a → HasType (rows_in R) d y n → n ≡ R.type_now c e a
+    type_from a n has new_has = has_one_type (λ m b. (tells m b).from) (rows_in R) d w.one_new w.new y n (R.type_now c e a) new_has (typed a has)
+
+    type_written : (b o : Ty) → WritesType rows (scope_of c) t b → WritesType (rows_in R) (scope_of d) u o → o ≡ type_in R b
+    type_written b o written new_written = written_once (rows_in R) w.one_new (scope_of d) u o (type_in R b) new_written (type_goes b written)
+
+    cast_pair : (a b n o : Ty) (j i : ℕ) (p q : Place) (z s x v : Code) → CastIs tells rows R X Chosen S c d j e y a b → ExpCode (λ m b. (tells m b).from) rows c j e z → ExpCode (λ m b. (tells m b).from) (rows_in R) d i y s
+        → HasType rows c e a → WritesType rows (scope_of c) t b → HasType (rows_in R) d y n → WritesType (rows_in R) (scope_of d) u o
         → CastCode rows a b p z x → CastCode (rows_in R) n o q s v → X.exp z s → X.exp x v
-    cast_pair a b n o p q z s x v has written new_has new_written old new same = pair old new
+    cast_pair a b n o j i p q z s x v (inr related) code new_code has written new_has new_written old new same = related i p q z s x v code new_code same old
+        (subst (λ (l : Ty). CastCode (rows_in R) l (type_in R b) q s v) (type_from a n has new_has) (subst (λ (l : Ty). CastCode (rows_in R) n l q s v) (type_written b o written new_written) new))
+    cast_pair a b n o j i p q z s x v (inl agree) code new_code has written new_has new_written old new same = pair old new
       where
         from : n ≡ R.type_now c e a
-        from = has_one_type (λ m b. (tells m b).from) (rows_in R) d w.one_new w.new y n (R.type_now c e a) new_has (typed a has)
+        from = type_from a n has new_has
 
         to : o ≡ type_in R b
-        to = written_once (rows_in R) w.one_new (scope_of d) u o (type_in R b) new_written (type_goes b written)
+        to = type_written b o written new_written
 
         known_type : IsKnown rows b
         known_type k is = written_row rows (scope_of c) t k (subst (λ (i : Ty). WritesType rows (scope_of c) t i) is written)
 
         there : IsAssignable rows a b → IsAssignable (rows_in R) n o
-        there h = subst (λ (i : Ty). IsAssignable (rows_in R) i o) (sym from) (subst (λ (i : Ty). IsAssignable (rows_in R) (R.type_now c e a) i) (sym to) ((casts e a b has known_type).0 h))
+        there h = subst (λ (i : Ty). IsAssignable (rows_in R) i o) (sym from) (subst (λ (i : Ty). IsAssignable (rows_in R) (R.type_now c e a) i) (sym to) (agree.0 h))
 
         here : IsAssignable (rows_in R) n o → IsAssignable rows a b
-        here h = (casts e a b has known_type).1 (subst (λ (i : Ty). IsAssignable (rows_in R) i (type_in R b)) from (subst (λ (i : Ty). IsAssignable (rows_in R) n i) to h))
+        here h = agree.1 (subst (λ (i : Ty). IsAssignable (rows_in R) i (type_in R b)) from (subst (λ (i : Ty). IsAssignable (rows_in R) n i) to h))
 
         pair : CastCode rows a b p z x → CastCode (rows_in R) n o q s v → X.exp x v
         pair (inl (sure, is)) (inl (sure_too, was)) = by x z v s is was same
@@ -184,18 +193,26 @@ module _ {A : Type 0} (tells : A → ℕ → Span) (rows : List Row) (R : Region
 
   -- ---- all expressions
 
+  -- it may be rewritten node by node, whatever is asked of it
+  abbrev pub Stays : Role → (base : ℕ) → tree.Exp A → Type 0
+  Stays r base e = (k : Asks) × PartStays S k c r base e
+
   -- node by node, or as a spot has it
   pub part_goals : (k : Asks) (r : Role) (base : ℕ) (e : tree.Exp A) (p : Rewritten (tree.Exp A)) → TransformsPart tells Chosen S k c r base e p → p.losses ≡ []
-      → (TransformsExp tells Chosen S c r base e p → (IsOnThis rows c e → X.own) → Both base e p.tree) → Both base e p.tree
-  part_goals k r base e p made none by_node = by_spots S (λ stays h. spots.on_this k c r base e stays h) made (λ spot. spots.parts k c d r base e 0 p.tree spot w.stand)
+      → (TransformsExp tells Chosen S c r base e p → Stays r base e → Both base e p.tree) → Both base e p.tree
+  part_goals k r base e p made none by_node = by_spots S (λ stays. (k, stays)) made (λ spot. spots.parts k r base e 0 p.tree spot)
     where
-      by_spots : (s : Spotted A) → (PartStays s k c r base e → IsOnThis rows c e → X.own) → OrPart s k c r base e p (TransformsExp tells Chosen S c r base e p) → (SpotStands s k c d r base e 0 p.tree → Both base e p.tree) → Both base e p.tree
-      by_spots nowhere own inner is = by_node inner (λ h. own tt h)
+      by_spots : (s : Spotted A) → (PartStays s k c r base e → Stays r base e) → OrPart s k c r base e p (TransformsExp tells Chosen S c r base e p) → (SpotStands s k c d r base e 0 p.tree → Both base e p.tree) → Both base e p.tree
+      by_spots nowhere own inner is = by_node inner (own tt)
       by_spots (spotted s) own (inl (stays, inner)) is = by_node inner (own stays)
       by_spots (spotted s) own (inr spot) is = is (p, spot, none, refl)
 
   part_becomes : (k : Asks) (r : Role) (base : ℕ) (e : tree.Exp A) (p : Rewritten (tree.Exp A)) → TransformsPart tells Chosen S k c r base e p → p.losses ≡ [] → Becomes (λ m b. (tells m b).from) rows R c d e p.tree
   part_becomes k r base e p made none = of_part tells rows R c d w super_at S parts k r base e p made none (λ inner. (kept tells rows R c d w super_at S parts r base e p inner none).becomes)
+
+  -- a member on `this` that stays has its receiver
+  own_by : (r : Role) (base : ℕ) (e : tree.Exp A) → Stays r base e → IsOnThis rows c e → X.own
+  own_by r base e held h = spots.on_this held.0 r base e held.1 h
 
   -- where `this` stays, it is `this`
   this_here : (s : Spotted A) → (ThisStays s → X.own) → {N : Type 0} → OrThis s N → X.own × N
@@ -242,7 +259,7 @@ module _ {A : Type 0} (tells : A → ℕ → Span) (rows : List Row) (R : Region
 
   part_free : (base : ℕ) (e : tree.Exp A) (p : Rewritten (tree.Exp A)) → TransformsPart tells Chosen S a_target c value base e p → p.losses ≡ [] → (t : TargetCode)
       → TargetOf (λ m b. (tells m b).from) rows c base e t → IsFreeTarget X.free t
-  part_free base e p made none t code = by_spots S (λ stays k h. spots.written c base e k stays h) made (λ spot. spots.targets c d base e 0 p.tree spot w.stand t code)
+  part_free base e p made none t code = by_spots S (λ stays k h. spots.written base e k stays h) made (λ spot. spots.targets base e 0 p.tree spot t code)
     where
       by_spots : (s : Spotted A) → (PartStays s a_target c value base e → (k : LocalKey) → IsLocal rows c e k → X.free k.number) → OrPart s a_target c value base e p (TransformsExp tells Chosen S c value base e p)
           → (SpotStands s a_target c d value base e 0 p.tree → IsFreeTarget X.free t) → IsFreeTarget X.free t
@@ -271,26 +288,26 @@ module _ {A : Type 0} (tells : A → ℕ → Span) (rows : List Row) (R : Region
   mutual
     unfolding TransformsExp TransformsTarget TransformsRow ExpCode TargetOf RowCode
 
-    pub images : (r : Role) (base : ℕ) (e : tree.Exp A) (o : Rewritten (tree.Exp A)) → TransformsExp tells Chosen S c r base e o → (IsOnThis rows c e → X.own) → o.losses ≡ [] → Both base e o.tree
-    images r base (tree.number m n) o is on_this none = move base (tree.number m n) o (plain (tree.number m n)) is ((λ i x z old new. literal_pair (here m base) (there m i) (core_value.int (wrapped (pos n))) x z old new), (λ i t u old new. absurd old))
-    images r base (tree.truth m n) o is on_this none = move base (tree.truth m n) o (plain (tree.truth m n)) is ((λ i x z old new. literal_pair (here m base) (there m i) (core_value.truth n) x z old new), (λ i t u old new. absurd old))
-    images r base (tree.null m) o is on_this none = move base (tree.null m) o (plain (tree.null m)) is ((λ i x z old new. literal_pair (here m base) (there m i) core_value.null x z old new), (λ i t u old new. absurd old))
-    images r base (tree.string m s) o is on_this none = move base (tree.string m s) o (plain (tree.string m s)) is ((λ i x z old new. literal_pair (here m base) (there m i) (core_value.text (unescaped false s)) x z old new), (λ i t u old new. absurd old))
-    images r base (tree.this m) o made on_this none = let here_is = this_here S spots.this made in move base (tree.this m) o (plain (tree.this m)) here_is.1 (
+    pub images : (r : Role) (base : ℕ) (e : tree.Exp A) (o : Rewritten (tree.Exp A)) → TransformsExp tells Chosen S c r base e o → Stays r base e → o.losses ≡ [] → Both base e o.tree
+    images r base (tree.number m n) o is held none = move base (tree.number m n) o (plain (tree.number m n)) is ((λ i x z old new. literal_pair (here m base) (there m i) (core_value.int (wrapped (pos n))) x z old new), (λ i t u old new. absurd old))
+    images r base (tree.truth m n) o is held none = move base (tree.truth m n) o (plain (tree.truth m n)) is ((λ i x z old new. literal_pair (here m base) (there m i) (core_value.truth n) x z old new), (λ i t u old new. absurd old))
+    images r base (tree.null m) o is held none = move base (tree.null m) o (plain (tree.null m)) is ((λ i x z old new. literal_pair (here m base) (there m i) core_value.null x z old new), (λ i t u old new. absurd old))
+    images r base (tree.string m s) o is held none = move base (tree.string m s) o (plain (tree.string m s)) is ((λ i x z old new. literal_pair (here m base) (there m i) (core_value.text (unescaped false s)) x z old new), (λ i t u old new. absurd old))
+    images r base (tree.this m) o made held none = let here_is = this_here S spots.this made in move base (tree.this m) o (plain (tree.this m)) here_is.1 (
       (λ i x z old new. by x (core.this (Some (here m base))) z (core.this (Some (there m i))) old new (by_images.exps.of_this here_is.0 (Some (here m base)) (Some (there m i)))),
       (λ i t u old new. absurd old),
     )
-    images r base (tree.name m v) o (h, inl (inl (k, spells)), is) on_this none = move base (tree.name m v) o (name_out tells h m base v) is (local_goals tells rows R c d w keys D X by_images locals base m v _ h (lost_none o (name_out tells h m base v) is none) k spells)
-    images r base (tree.name m v) o (h, inl (inr (k, spells)), is) on_this none = move base (tree.name m v) o (name_out tells h m base v) is (own_field_goals tells rows R c d w keys D X by_images locals base m v _ h (lost_none o (name_out tells h m base v) is none) on_this k spells)
-    images r base (tree.name m v) o (h, inr spells, is) on_this none = class_goals tells rows R c d w keys D X by_images locals base m v _ h (lost_none o (name_out tells h m base v) is none) r spells o.tree
-    images r base (tree.field m e v) o (h, p, inl spells, inner, is) on_this none = let all = lost_none o (field_out tells h m base e p v) is none in
+    images r base (tree.name m v) o (h, inl (inl (k, spells)), is) held none = move base (tree.name m v) o (name_out tells h m base v) is (local_goals tells rows R c d w keys D X by_images locals base m v _ h (lost_none o (name_out tells h m base v) is none) k spells)
+    images r base (tree.name m v) o (h, inl (inr (k, spells)), is) held none = move base (tree.name m v) o (name_out tells h m base v) is (own_field_goals tells rows R c d w keys D X by_images locals base m v _ h (lost_none o (name_out tells h m base v) is none) (own_by r base (tree.name m v) held) k spells)
+    images r base (tree.name m v) o (h, inr spells, is) held none = class_goals tells rows R c d w keys D X by_images locals base m v _ h (lost_none o (name_out tells h m base v) is none) r spells o.tree
+    images r base (tree.field m e v) o (h, p, inl spells, inner, is) held none = let all = lost_none o (field_out tells h m base e p v) is none in
         move base (tree.field m e v) o (field_out tells h m base e p v) is (field_goals tells rows R c d w keys D X by_images locals base m e p.tree v _ h (right_none (operand_losses tells h p.losses) (losses_of h) all)
         (λ stays. let left_none_lost = operand_none tells rows R c d w super_at S parts h p.losses all stays in (part_becomes (operand_asks (front_of h)) left ((tells m base).from) e p inner left_none_lost, (part_goals (operand_asks (front_of h)) left ((tells m base).from) e p inner left_none_lost (λ x own. images left ((tells m base).from) e p x own left_none_lost)).0)) spells)
-    images r base (tree.field m e v) o (h, p, inr spells, inner, is) on_this none = let all = lost_none o (field_out tells h m base e p v) is none in
+    images r base (tree.field m e v) o (h, p, inr spells, inner, is) held none = let all = lost_none o (field_out tells h m base e p v) is none in
         member_class_goals tells rows R c d w keys D X by_images locals base m e p.tree v _ h (right_none (operand_losses tells h p.losses) (losses_of h) all)
         (λ stays. let left_none_lost = operand_none tells rows R c d w super_at S parts h p.losses all stays in (part_becomes (operand_asks (front_of h)) left ((tells m base).from) e p inner left_none_lost, (part_goals (operand_asks (front_of h)) left ((tells m base).from) e p inner left_none_lost (λ x own. images left ((tells m base).from) e p x own left_none_lost)).0)) r spells o.tree
-    images r base (tree.super_field m v) o (h, spells, is) on_this none = move base (tree.super_field m v) o (super_field_out tells h m base v) is (super_field_goals tells rows R c d w keys D X by_images locals base m v _ h (lost_none o (super_field_out tells h m base v) is none) on_this spells)
-    images r base (tree.class_literal m t) o (p, types, is) on_this none = move base (tree.class_literal m t) o (within (λ u. tree.class_literal m u) p) is (
+    images r base (tree.super_field m v) o (h, spells, is) held none = move base (tree.super_field m v) o (super_field_out tells h m base v) is (super_field_goals tells rows R c d w keys D X by_images locals base m v _ h (lost_none o (super_field_out tells h m base v) is none) (own_by r base (tree.super_field m v) held) spells)
+    images r base (tree.class_literal m t) o (p, types, is) held none = move base (tree.class_literal m t) o (within (λ u. tree.class_literal m u) p) is (
       (λ i x z (k, written, old) (n, other, new).
           let all = lost_none o (within (λ u. tree.class_literal m u) p) is none in
           let type = written_once (rows_in R) w.one_new (scope_of d) p.tree (class n) (class (class_in R k)) other (type_kept tells rows R c d w super_at _ t p types all (class k) written) in
@@ -299,15 +316,15 @@ module _ {A : Type 0} (tells : A → ℕ → Span) (rows : List Row) (R : Region
           literal_pair (here m base) (there m i) (core_value.class_object k) x z old (new ∙ ap (λ (l : ClassKey). core.literal (Some (there m i)) (core_value.class_object l)) (same ∙ sym (by_images.maps.class k row.0 row.1)))),
       (λ i t u old new. absurd old),
     )
-    images r base (tree.call m tree.no_target v args) o (h, p, q, spells, target, row, is) on_this none =
+    images r base (tree.call m tree.no_target v args) o (h, p, q, spells, target, row, is) held none =
         let out = is ∙ ap (λ (z : Rewritten (Called tells)). joined (λ (t : Called tells) es. tree.call m t.target t.word es) z q) target in
         let all = lost_none o (joined (λ (t : Called tells) es. tree.call m t.target t.word es) (simple_call_out tells h m base v) q) out none in
         move base (tree.call m tree.no_target v args) o (joined (λ (t : Called tells) es. tree.call m t.target t.word es) (simple_call_out tells h m base v) q) out (
           simple_call_goal tells rows R c d w keys D X by_images locals base m v args q.tree (λ ts types. kept_row tells rows R c d w super_at S parts _ args q row (right_none (losses_of h) q.losses all) ts (R.types_now c args ts) (w.args c args ts) types)
-              (row_images _ args q row (right_none (losses_of h) q.losses all)) _ h (left_none (losses_of h) q.losses all) on_this spells,
+              (row_images _ args q row (right_none (losses_of h) q.losses all)) _ h (left_none (losses_of h) q.losses all) (own_by r base (tree.call m tree.no_target v args) held) spells,
           (λ i t u old new. absurd old),
         )
-    images r base (tree.call m (tree.on e) v args) o (h, p, q, spells, (x, inner, target), row, is) on_this none =
+    images r base (tree.call m (tree.on e) v args) o (h, p, q, spells, (x, inner, target), row, is) held none =
         let out = is ∙ ap (λ (z : Rewritten (Called tells)). joined (λ (t : Called tells) es. tree.call m t.target t.word es) z q) target in
         let all = lost_none o (joined (λ (t : Called tells) es. tree.call m t.target t.word es) (dotted_call_out tells h m base e x v) q) out none in
         let front = left_none (operand_losses tells h x.losses ++ losses_of h) q.losses all in
@@ -318,14 +335,14 @@ module _ {A : Type 0} (tells : A → ℕ → Span) (rows : List Row) (R : Region
               (λ stays. let left_none_lost = operand_none tells rows R c d w super_at S parts h x.losses front stays in (part_becomes (operand_asks (front_of h)) left ((tells m base).from) e x inner left_none_lost, (part_goals (operand_asks (front_of h)) left ((tells m base).from) e x inner left_none_lost (λ y own. images left ((tells m base).from) e x y own left_none_lost)).0)) spells,
           (λ i t u old new. absurd old),
         )
-    images r base (tree.super_call m v args) o (h, q, spells, row, is) on_this none =
+    images r base (tree.super_call m v args) o (h, q, spells, row, is) held none =
         let all = lost_none o (joined (λ v es. tree.super_call m v es) (word_out tells h ((tells m base).from) v) q) is none in
         move base (tree.super_call m v args) o (joined (λ v es. tree.super_call m v es) (word_out tells h ((tells m base).from) v) q) is (
           super_call_goal tells rows R c d w keys D X by_images locals base m v args q.tree (λ ts types. kept_row tells rows R c d w super_at S parts _ args q row (right_none (losses_of h) q.losses all) ts (R.types_now c args ts) (w.args c args ts) types)
-              (row_images _ args q row (right_none (losses_of h) q.losses all)) _ h (left_none (losses_of h) q.losses all) on_this spells,
+              (row_images _ args q row (right_none (losses_of h) q.losses all)) _ h (left_none (losses_of h) q.losses all) (own_by r base (tree.super_call m v args) held) spells,
           (λ i t u old new. absurd old),
         )
-    images r base (tree.create m t args) o (h, p, q, spells, types, row, is) on_this none =
+    images r base (tree.create m t args) o (h, p, q, spells, types, row, is) held none =
         let all = lost_none o _ is none in
         let inside = right_none (losses_of h) (p.losses ++ q.losses) all in
         move base (tree.create m t args) o _ is (
@@ -333,45 +350,45 @@ module _ {A : Type 0} (tells : A → ℕ → Span) (rows : List Row) (R : Region
               (λ ts have. kept_row tells rows R c d w super_at S parts _ args q row (right_none p.losses q.losses inside) ts (R.types_now c args ts) (w.args c args ts) have) base (row_images _ args q row (right_none p.losses q.losses inside)) h (left_none (losses_of h) (p.losses ++ q.losses) all) spells,
           (λ i t u old new. absurd old),
         )
-    images r base (tree.paren m e) o (p, inner, is) on_this none =
+    images r base (tree.paren m e) o (p, inner, is) held none =
         let all = lost_none o (within (λ x. tree.paren m x) p) is none in
         move base (tree.paren m e) o (within (λ x. tree.paren m x) p) is ((λ i x z old new. (part_goals (level 0) value ((tells m base).from) e p inner all (λ x own. images value ((tells m base).from) e p x own all)).0 _ x z old new), (λ i t u old new. absurd old))
-    images r base (tree.cast m t e) o (p, q, types, inner, is) on_this none =
+    images r base (tree.cast m t e) o (p, q, types, inner, is) held none =
         let all = lost_none o (joined (λ u x. tree.cast m u x) p q) is none in
         let back = right_none p.losses q.losses all in
         move base (tree.cast m t e) o (joined (λ u x. tree.cast m u x) p q) is (
           (λ i x z (a, u, y, has, written, code, old) (n, l, s, new_has, new_written, new_code, new).
               cast_pair e q.tree t p.tree (part_becomes (level unsigned_level) value ((tells m base).from) e q inner back).typed (type_kept tells rows R c d w super_at _ t p types (left_none p.losses q.losses all))
-              a u n l _ _ y s x z has written new_has new_written old new ((part_goals (level unsigned_level) value ((tells m base).from) e q inner back (λ x own. images value ((tells m base).from) e q x own back)).0 _ y s code new_code)),
+              a u n l ((tells m base).from) _ _ _ y s x z (casts held.0 r base m t e q a u held.1 inner back has written) code new_code has written new_has new_written old new ((part_goals (level unsigned_level) value ((tells m base).from) e q inner back (λ x own. images value ((tells m base).from) e q x own back)).0 _ y s code new_code)),
           (λ i t u old new. absurd old),
         )
-    images r base (tree.unary m s e) o (p, inner, is) on_this none =
+    images r base (tree.unary m s e) o (p, inner, is) held none =
         let all = lost_none o (within (λ x. tree.unary m s x) p) is none in
         move base (tree.unary m s e) o (within (λ x. tree.unary m s x) p) is (
           (λ i x z (y, code, old) (n, new_code, new). by x _ z _ old new (by_images.exps.of_signed _ _ (sign_of s) y n ((part_goals (level sign_level) value ((tells m base).from) e p inner all (λ x own. images value ((tells m base).from) e p x own all)).0 _ y n code new_code))),
           (λ i t u old new. absurd old),
         )
-    images r base (tree.bump m s e) o (p, inner, is) on_this none =
+    images r base (tree.bump m s e) o (p, inner, is) held none =
         let all = lost_none o (within (λ x. tree.bump m s x) p) is none in
         move base (tree.bump m s e) o (within (λ x. tree.bump m s x) p) is (
           (λ i x z (t, code, old) (u, new_code, new). by x _ z _ old new (by_images.exps.of_bump _ _ (bump_of s) t u ((part_goals a_target value ((tells m base).from) e p inner all (λ x own. images value ((tells m base).from) e p x own all)).1 _ t u code new_code) (part_free ((tells m base).from) e p inner all t code))),
           (λ i t u old new. absurd old),
         )
-    images r base (tree.binary m s e f) o (p, q, first, second, is) on_this none =
+    images r base (tree.binary m s e f) o (p, q, first, second, is) held none =
         let all = lost_none o (joined (λ u v. tree.binary m s u v) p q) is none in
         move base (tree.binary m s e f) o (joined (λ u v. tree.binary m s u v) p q) is (
           (λ i x z (y, n, one_code, other_code, old) (s1, t1, new_one, new_other, new). by x _ z _ old new (operation_image keys D X by_images.exps _ _ s y s1 n t1
               ((part_goals (level (rank_of s)) value ((tells m base).from) e p first (left_none p.losses q.losses all) (λ x own. images value ((tells m base).from) e p x own (left_none p.losses q.losses all))).0 _ y s1 one_code new_one) ((part_goals (level (suc (rank_of s))) value ((tells m base).from) f q second (right_none p.losses q.losses all) (λ x own. images value ((tells m base).from) f q x own (right_none p.losses q.losses all))).0 _ n t1 other_code new_other))),
           (λ i t u old new. absurd old),
         )
-    images r base (tree.assign m e f) o (p, q, first, second, is) on_this none =
+    images r base (tree.assign m e f) o (p, q, first, second, is) held none =
         let all = lost_none o (joined (λ u v. tree.assign m u v) p q) is none in
         move base (tree.assign m e f) o (joined (λ u v. tree.assign m u v) p q) is (
           (λ i x z (y, n, one_code, other_code, old) (s1, t1, new_one, new_other, new). by x _ z _ old new (by_images.exps.of_assign _ _ y s1 n t1
               ((part_goals a_target value ((tells m base).from) e p first (left_none p.losses q.losses all) (λ x own. images value ((tells m base).from) e p x own (left_none p.losses q.losses all))).1 _ y s1 one_code new_one) (part_free ((tells m base).from) e p first (left_none p.losses q.losses all) y one_code) ((part_goals (level 0) value ((tells m base).from) f q second (right_none p.losses q.losses all) (λ x own. images value ((tells m base).from) f q x own (right_none p.losses q.losses all))).0 _ n t1 other_code new_other))),
           (λ i t u old new. absurd old),
         )
-    images r base (tree.compound m s e f) o (p, q, first, second, is) on_this none =
+    images r base (tree.compound m s e f) o (p, q, first, second, is) held none =
         let all = lost_none o (joined (λ u v. tree.compound m s u v) p q) is none in
         move base (tree.compound m s e f) o (joined (λ u v. tree.compound m s u v) p q) is (
           (λ i x z (a, y, n, arithmetic, one_code, other_code, old) (l, s1, t1, other_arithmetic, new_one, new_other, new).

@@ -2,7 +2,7 @@
 -- respelling puts in front of a word), `VariableImages`, `CallImages`, `ExpImages` (one recursion over
 -- expressions), `StmtImages`, `MemberImages` (methods), `ConstructorImages`, `InitImages`. `ReceiverImages`:
 -- where a local stands for `this`. `Through`:
--- images with sets of agreeing locals. `Renamed`: a rename's expressions, as a case.
+-- images with sets of agreeing locals; `Flowing`: between all sets that old code goes between. `Renamed`: a rename's expressions, as a case.
 pub mod References
 pub mod Fronts
 pub mod VariableImages
@@ -14,4 +14,5 @@ pub mod ConstructorImages
 pub mod InitImages
 pub mod ReceiverImages
 pub mod Through
+pub mod Flowing
 pub mod Renamed

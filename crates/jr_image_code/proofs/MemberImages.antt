@@ -35,9 +35,8 @@ use Rattle.jr_code.specs.Coded.{Code}
 use Rattle.jr_code.specs.CodedStatements.{ListCode, StmtsCode}
 use Rattle.jr_code.specs.CodedMembers.{MethodCoded}
 use Rattle.jr_image_code.specs.KnownPlaces.{IsKnown, IsPlace}
-use Rattle.jr_image_code.specs.KeysIn.{CastsStay}
 use Rattle.jr_image_code.specs.CodeRelations.{Relations, AreStmtsRelated}
-use Rattle.jr_image_code.specs.CodedSpots.{GoesByImages, SpotsCoded, AreBelow, StatementsCoded}
+use Rattle.jr_image_code.specs.CodedSpots.{CastsCoded, GoesByImages, SpotsCoded, AreBelow, StatementsCoded}
 use Rattle.jr_image_code.specs.MemberCodes.{CodesTo, MethodsTo}
 use Rattle.jr_image_code.proofs.StmtImages.{HasNoRows, list_images}
 
@@ -78,11 +77,12 @@ params_known rows k n (p ∷ ps) (u ∷ us) each (suc i) l e t is = params_known
 pub place_of : {A : Type 0} (rows : List Row) (k : MemberKey) (static : Bool) (ps : List (syntax.Param A)) → HasRow rows (class_decl (class_of_member k)) → ((t : Ty) → Of t (types_of k) → IsKnown rows t) → IsPlace rows (with_parameters k static ps)
 place_of rows k static ps row each = record { class = row; locals = params_known rows k 0 ps (types_of k) each }
 
-module _ {A : Type 0} (tells : A → ℕ → Span) (last : A → ℕ → ℕ) (rows : List Row) (R : Region A) (super_at : Context → ℕ) (S : Spotted A) (parts : PartsBecome (λ m b. (tells m b).from) rows R S) (At : Standing)
+module _ {A : Type 0} (tells : A → ℕ → Span) (last : A → ℕ → ℕ) (rows : List Row) (R : Region A) (super_at : Context → ℕ) (S : Spotted A) (At : Standing A)
     (stands : AreStanding tells rows R (choosing (λ m b. (tells m b).from) rows R super_at) S At) (begin : AreBeginning tells rows R (choosing (λ m b. (tells m b).from) rows R super_at) S At)
-    (worlds : (c d : Context) → StandsFor R rows c d → RegionWorld A rows R c d)
+    (parts : (c d : Context) → At.Known c d → PartsBecome (λ m b. (tells m b).from) rows R S c d) (worlds : (c d : Context) → StandsFor R rows c d → RegionWorld A rows R c d)
     (keys : KeyMap RunKeys) (D : core_rows.Rows RunKeys) (X : Relations) (by_images : GoesByImages rows R keys D X) (stmts : AreStmtsRelated keys D X) (no_rows : HasNoRows rows)
-    (casts : (c : Context) → IsPlace rows c → CastsStay rows R c) (spots : SpotsCoded (λ m b. (tells m b).from) rows R X S) (size : ℕ)
+    (casts : (c d : Context) → IsPlace rows c → At.Known c d → CastsCoded tells rows R X (choosing (λ m b. (tells m b).from) rows R super_at) S c d)
+    (spots : (c d : Context) → At.Known c d → SpotsCoded (λ m b. (tells m b).from) rows R X S c d) (size : ℕ)
     (coded : StatementsCoded tells last rows R X (choosing (λ m b. (tells m b).from) rows R super_at) S At size) (own : X.own) (places places' : MemberKey → ℕ) where
   abbrev begins : A → ℕ → ℕ
   begins m b = (tells m b).from
@@ -104,10 +104,10 @@ module _ {A : Type 0} (tells : A → ℕ → Span) (last : A → ℕ → ℕ) (r
 
   -- the method's image is of the image of its class
   pub method_image : (k : MethodKey) → (method_in R k).class ≡ class_in R k.class → (j : ℕ) → IsRowOf rows (class_decl k.class) j → ((t : Ty) → Of t k.params → IsKnown rows t)
-      → (base : ℕ) (m : A) (mods : List (syntax.Modifier A)) (t : Option (tree.TypeName A)) (w : tree.Word A) (ps : List (syntax.Param A)) (body : statement.Stmts A) → length ps + locals_in_row body ≤ size
+      → (base : ℕ) (m : A) (mods : List (syntax.Modifier A)) (t : Option (tree.TypeName A)) (w : tree.Word A) (ps : List (syntax.Param A)) (body : statement.Stmts A) → At.Written (member.method k) base (syntax.method m mods t w ps body) → length ps + locals_in_row body ≤ size
       → (o : Rewritten (syntax.Member A)) → TransformsMember tells Chosen S (member.method k) base (syntax.method m mods t w ps body) o → o.losses ≡ [] → (i : ℕ) (x y : core.Method RunKeys)
       → MethodCoded begins last rows places k base (syntax.method m mods t w ps body) x → MethodCoded begins last (rows_in R) places' (method_in R k) i o.tree y → MethodsTo X size x y
-  method_image k owner j row types base m mods t w ps body fits o (p, v, q, z, result, declared, params, made, is) none i x y (s, code, old) new =
+  method_image k owner j row types base m mods t w ps body here fits o (p, v, q, z, result, declared, params, made, is) none i x y (s, code, old) new =
       let whole_out = joined (λ (u : Option (tree.TypeName A) × tree.Word A) (x : List (syntax.Param A) × statement.Stmts A). syntax.method m mods u.0 u.1 x.0 x.1) (joined (λ u x. (u, x)) p v) (joined (λ u x. (u, x)) q z) in
       let all = lost_none o whole_out is none in
       let back = right_none (p.losses ++ v.losses) (q.losses ++ z.losses) all in
@@ -120,9 +120,9 @@ module _ {A : Type 0} (tells : A → ℕ → Span) (last : A → ℕ → ℕ) (r
         no_more,
         locked_image (is_synchronized mods) _ _ _ _ (monitor k.class (is_static_member begins mods)) (monitor (method_in R k).class (is_static_member begins mods)) s n.0
             (monitor_image k.class (method_in R k).class owner j row (is_static_member begins mods))
-            (list_images tells last rows R super_at S parts At stands worlds keys D X by_images stmts no_rows casts spots size coded (length ps) (length ps)
+            (list_images tells last rows R super_at S At stands parts worlds keys D X by_images stmts no_rows casts spots size coded (length ps) (length ps)
             (with_parameters (member.method k) (is_static_member begins mods) ps) (with_parameters (member_in R (member.method k)) (is_static_member begins mods) q.tree)
-            (begin.parameters (member.method k) (is_static_member begins mods) _ ps q params)
-            (params_below size (member.method k) 0 ps k.params few) (place_of rows (member.method k) (is_static_member begins mods) ps (j, row) types) _ body z made (right_none q.losses z.losses back) fits _ s n.0 code
+            _ body (begin.method (member.method k) base m mods t w ps body q here params)
+            (params_below size (member.method k) 0 ps k.params few) (place_of rows (member.method k) (is_static_member begins mods) ps (j, row) types) z made (right_none q.losses z.losses back) fits _ s n.0 code
             (subst (λ (l : ℕ). StmtsCode begins last (rows_in R) l (with_parameters (member_in R (member.method k)) (is_static_member begins mods) q.tree) ((tells m i).from) z.tree n.0) count n.1)),
       )

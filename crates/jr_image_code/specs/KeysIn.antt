@@ -53,7 +53,8 @@ pub record WordsStay (old : List Row) (m : Images) : Type 0 where
 
 -- A cast that can't fail is dropped (JLS 5.5.1): of each expression at the place what it was
 -- assignable to, by the type that it had, has an image to which it is, by the type that the region
--- tells; and nothing else has.
+-- tells; and nothing else has. A rename shows it; of any region less is asked (`CodedSpots:
+-- CastsCoded`).
 abbrev pub CastsStay : {A : Type 0} → List Row → Region A → Context → Type 0
 CastsStay {A} rows R c = (e : tree.Exp A) (t u : Ty) → HasType rows c e t → IsKnown rows u
     → IsAssignable rows t u

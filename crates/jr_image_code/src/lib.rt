@@ -7,7 +7,8 @@
 //! Given are the old tree where it stands, what a refactoring makes of it, and the code of both.
 //! They say it for any relation of old code and new that holds of a node where it holds of its parts
 //! (`specs/CodeRelations`); an image with its sets of agreeing locals, in a standing, is one
-//! (`SetImages`, `proofs/Through`). `ReceiverImages`: where a local stands for `this`. `laws` says it
+//! (`SetImages`, `proofs/Through`), and one between all sets that the old code goes between is another
+//! (`FlowImages`, `proofs/Flowing`). `ReceiverImages`: where a local stands for `this`. `laws` says it
 //! of a rename's expressions.
 //!
 //! `specs/KeysIn`: what a map of keys owes to the images, and the images to the two programs;

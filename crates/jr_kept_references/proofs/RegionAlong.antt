@@ -104,7 +104,7 @@ module _ {A : Type 0} (m : A) (x : tree.Exp A) (Becomes : Asks → tree.Exp A �
       (tree.field m (tree.name m (new_word m o)) (new_word m k), ap (λ (f : Front). operand_to m f (Some x)) is, inr (inr (inr (m, m, new_word m o, new_word m k, refl))))
 
 module _ {A : Type 0} (tells : A → ℕ → Span) (rows : List Row) (R : Region A) (c d : Context) (w : RegionWorld A rows R c d) (super_at : Context → ℕ) (S : Spotted A)
-    (parts : PartsBecome (λ m b. (tells m b).from) rows R S) where
+    (parts : PartsBecome (λ m b. (tells m b).from) rows R S c d) where
   abbrev Chosen : Choosing A
   Chosen = choosing (λ m b. (tells m b).from) rows R super_at
 

@@ -53,7 +53,7 @@ module _ {A : Type 0} (tells : A → ℕ → Span) (rows : List Row) (R : Region
   abbrev Gives : tree.Exp A → tree.Exp A → Type 0
   Gives x y = Becomes (λ m b. (tells m b).from) rows R c d x y
 
-  module _ (super_at : Context → ℕ) (S : Spotted A) (parts : PartsBecome (λ m b. (tells m b).from) rows R S) where
+  module _ (super_at : Context → ℕ) (S : Spotted A) (parts : PartsBecome (λ m b. (tells m b).from) rows R S c d) where
     abbrev Chosen : Choosing A
     Chosen = choosing (λ m b. (tells m b).from) rows R super_at
 
@@ -69,13 +69,13 @@ module _ {A : Type 0} (tells : A → ℕ → Span) (rows : List Row) (R : Region
         → Gives e p.tree
     of_part k r base e p made none by_node = by S parts made
       where
-        by : (s : Spotted A) → PartsBecome (λ m b. (tells m b).from) rows R s → OrPart s k c r base e p (TransformsExp tells Chosen S c r base e p) → Gives e p.tree
+        by : (s : Spotted A) → PartsBecome (λ m b. (tells m b).from) rows R s c d → OrPart s k c r base e p (TransformsExp tells Chosen S c r base e p) → Gives e p.tree
         by nowhere become inner = by_node inner
         by (spotted s) become (inl (stays, inner)) = by_node inner
-        by (spotted s) become (inr spot) = become.1 k c d r base e p spot none w.stand
+        by (spotted s) become (inr spot) = become.1 k r base e p spot none
 
     -- where `this` stays, nothing else stands for it
-    this_stays : (s : Spotted A) → PartsBecome (λ m b. (tells m b).from) rows R s → {N : Type 0} → OrThis s N → (R.receiver ≡ itself) × N
+    this_stays : (s : Spotted A) → PartsBecome (λ m b. (tells m b).from) rows R s c d → {N : Type 0} → OrThis s N → (R.receiver ≡ itself) × N
     this_stays nowhere become h = (become, h)
     this_stays (spotted s) become h = (become.0 h.0, h.1)
 

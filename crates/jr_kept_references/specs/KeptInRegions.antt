@@ -31,7 +31,6 @@ use Rattle.jr_kept_references.specs.InRegions.{
   ctor_in,
   member_in,
   type_in,
-  StandsFor,
 }
 
 -- ---- written types (JLS 6.5.5)
@@ -111,16 +110,16 @@ module _ {A : Type 0} (begins : A → ℕ → ℕ) (rows : List Row) (R : Region
 
 -- ---- spots
 
--- `this` stays only where nothing else stands for it; and what a spot makes of an expression has the
--- type that the region tells, and is a class's name where the expression was one: a refactoring owes
--- it where it loses nothing
+-- At a place and the one that stands for it: `this` stays only where nothing else stands for it;
+-- and what a spot makes of an expression has the type that the region tells, and is a class's name
+-- where the expression was one. A refactoring owes it of places that it knows (`RegionPlaces:
+-- Standing`), where it loses nothing.
 abbrev pub PartsBecome : {A : Type 0} (begins : A → ℕ → ℕ) (rows : List Row) → Region A → Spotted A
-    → Type 0
-PartsBecome begins rows R nowhere = R.receiver ≡ itself
-PartsBecome {A} begins rows R (spotted s) = (s.this_stays → R.receiver ≡ itself)
-    × ((k : Asks) (c d : Context) (r : Role) (base : ℕ) (e : tree.Exp A)
-    (o : Rewritten (tree.Exp A)) → s.part k c r base e o → o.losses ≡ [] → StandsFor R rows c d
-    → Becomes begins rows R c d e o.tree)
+    → (c d : Context) → Type 0
+PartsBecome begins rows R nowhere c d = R.receiver ≡ itself
+PartsBecome {A} begins rows R (spotted s) c d = (s.this_stays → R.receiver ≡ itself)
+    × ((k : Asks) (r : Role) (base : ℕ) (e : tree.Exp A) (o : Rewritten (tree.Exp A))
+    → s.part k c r base e o → o.losses ≡ [] → Becomes begins rows R c d e o.tree)
 
 -- ---- superclasses
 

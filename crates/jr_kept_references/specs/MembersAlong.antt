@@ -30,6 +30,17 @@ ClassSpotStands nowhere b outer x y = ⊥
 ClassSpotStands {A} (spotted s) b outer x y =
     (o : Rewritten (syntax.Class A)) × s.whole b outer x o × (o.losses ≡ []) × (y ≡ o.tree)
 
+-- members, and a class, may be rewritten node by node
+abbrev pub MembersStay : {A : Type 0} → Spotted A → (base : ℕ) → ClassKey → syntax.Members A
+    → Type 0
+MembersStay nowhere b of xs = Unit {0}
+MembersStay (spotted s) b of xs = s.members_stay b of xs
+
+abbrev pub ClassStays : {A : Type 0} → Spotted A → (base : ℕ) → Option (List ℕ) → syntax.Class A
+    → Type 0
+ClassStays nowhere b outer x = Unit {0}
+ClassStays (spotted s) b outer x = s.whole_stays b outer x
+
 -- What holds of references, written types, expressions and lists that are spots as in
 -- `StatementsAlong`; `S` of the arguments of a written `super(..)`, `H` of a superclass, by the
 -- class around it; `M` of members that are a spot, `N` of a class that is. `to`: what a member's

@@ -18,6 +18,12 @@ ListSpotStands nowhere n z c d b xs i ys = ⊥
 ListSpotStands {A} (spotted s) n z c d b xs i ys =
     (o : Rewritten (statement.Stmts A)) × s.list n c b xs o × (o.losses ≡ []) × (ys ≡ o.tree)
 
+-- a list may be rewritten node by node
+abbrev pub ListStays : {A : Type 0} → Spotted A → (next : ℕ) → Context → (base : ℕ)
+    → statement.Stmts A → Type 0
+ListStays nowhere n c b xs = Unit {0}
+ListStays (spotted s) n c b xs = s.list_stays n c b xs
+
 -- `P`, `T`, `Q`: of references, written types and spots among expressions (`AlongSpots`). `L`: the
 -- same of a spot that is a list of statements.
 module _ {A B : Type 0} (begins : A → ℕ → ℕ) (begins' : B → ℕ → ℕ)

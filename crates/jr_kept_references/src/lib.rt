@@ -8,8 +8,9 @@
 //! Definitions: `InRegions` (what stands at a place of the new program, and which types a region
 //! has to tell), `KeptInRegions` (what becomes of an expression and of its reference; what a spot
 //! owes), `AlongSpots`, `StatementsAlong`, `MembersAlong` (old and new trees side by side, but for
-//! spots), `RegionPlaces` (how places go down a member's statements), `Made` (references that are
-//! made), `Receivers` (where a local stands for `this`), `ExpressionLaws`.
+//! spots), `RegionPlaces` (what is known of places of the tree, and how they go down what is walked;
+//! nothing is asked of other places), `Made` (references that are made), `Receivers` (where a local
+//! stands for `this`), `ExpressionLaws`.
 #![tactic(auto)]
 
 mod laws;

@@ -55,12 +55,12 @@ nothing_kept : (r : KeyMap RunKeys) (R : core_rows.Rows RunKeys) → ToCode r R 
 nothing_kept r R = record { size = 0; params = refl; below = omega arith; body = no_more_to }
 
 -- the prelude's rows stay
-stays : (rows : List Row) (g : Renaming) → AreRows rows → AreRows (rows_to g rows) → (n : ℕ) (row : Row) → slice_get prelude_rows n ≡ Some row → row_to g row ≡ row
+pub stays : (rows : List Row) (g : Renaming) → AreRows rows → AreRows (rows_to g rows) → (n : ℕ) (row : Row) → slice_get prelude_rows n ≡ Some row → row_to g row ≡ row
 stays rows g are news n row e =
     let p : Some (row_to g row) ≡ Some row = sym (slice_get-map (row_to g) rows n ∙ ap (option_map (row_to g)) (prelude_at rows are n row e)) ∙ prelude_at (rows_to g rows) news n row e in cc
 
 module _ (rows : List Row) (g : Renaming) (are : AreRows rows) (news : AreRows (rows_to g rows)) where
-  run_stays : method_to g (thread_key (codes "run")) ≡ thread_key (codes "run")
+  pub run_stays : method_to g (thread_key (codes "run")) ≡ thread_key (codes "run")
   run_stays =
       let p : method_decl (method_to g (thread_key (codes "run"))) ≡ method_decl (thread_key (codes "run")) = ap (λ (z : Row). z.decl) (stays rows g are news 6 (thread_row (word.Public ∷ []) (codes "run")) refl) in cc
 

@@ -1,6 +1,6 @@
 -- The code of what a rename rewrites is kept: a rename is the case of one region without spots, and code that is kept is a relation
 -- that holds of a node where it holds of its parts.
-use Rattle.std.proofs.Common.{◌≡◌, ◌<◌, ◌≤◌, ℕ, ◌+◌, List, [], ◌∷◌, Option, Some, None, false, refl, sym, ap, subst, ◌∙◌, length, arith}
+use Rattle.std.proofs.Common.{◌≡◌, ◌<◌, ℕ, ◌+◌, List, [], Option, Some, None, false, refl, sym, ap, subst, ◌∙◌, length, arith}
 use Rattle.jr_text.specs.declared.spans.Span.{Span}
 use Rattle.jr_ast.specs.Tree as tree
 use Rattle.jr_ast.specs.StatementTree as statement
@@ -11,7 +11,7 @@ use Rattle.jr_runs.specs.Rows as core_rows
 use Rattle.jr_runs.specs.KeyMaps.{KeyMap}
 use Rattle.jr_runs.specs.MemberTranslation.{in_front}
 use Rattle.jr_table.specs.Keys.{ClassKey, MethodKey, CtorKey, Ty}
-use Rattle.jr_table.specs.Decls.{MemberKey, head, field, method, constructor, LocalKey, class_decl, constructor_decl}
+use Rattle.jr_table.specs.Decls.{MemberKey, head, method, constructor, LocalKey, class_decl, constructor_decl}
 use Rattle.jr_table.specs.Rows.{Row}
 use Rattle.jr_table.specs.Prelude.{top_key}
 use Rattle.jr_table.specs.Entries.{IsRowOf}
@@ -19,7 +19,7 @@ use Rattle.jr_table.specs.Conditions.{AreRows}
 use Rattle.jr_table.specs.Keyed.{IsAssignable}
 use Rattle.jr_table.specs.DeclaredItems.{DeclaredItem}
 use Rattle.jr_table.specs.Errors.{InMembers}
-use Rattle.jr_table.specs.Context.{Context, Local, scope_of, after, locals_in, locals_in_else, locals_in_row}
+use Rattle.jr_table.specs.Context.{Context, scope_of, after, locals_in, locals_in_else, locals_in_row}
 use Rattle.jr_table.specs.HeadRules.{plain}
 use Rattle.jr_table.specs.Binding.{HasType}
 use Rattle.jr_table.specs.BindingLaws.{IsBound}
@@ -29,16 +29,18 @@ use Rattle.jr_rewrite.specs.Rewritten.{Rewritten}
 use Rattle.jr_rewrite.specs.Spots.{nowhere}
 use Rattle.jr_rewrite.specs.Rewrites.{Choosing, RewritesStmt, RewritesElse, RewritesStmts, RewritesMember, RewritesMembers, TransformsStmt, TransformsElse, TransformsStmts}
 use Rattle.jr_images.specs.Images.{Renaming, class_to, method_to, ctor_to, member_to, local_to, type_to, scope_to, rows_to}
-use Rattle.jr_images.specs.Regions.{image_of_type, images_of, region_of}
+use Rattle.jr_images.specs.Regions.{region_of}
 use Rattle.jr_images.specs.Spelling.{spelling}
 use Rattle.jr_images.specs.Standing.{ContextTo}
 use Rattle.jr_images.specs.RenameLaws.{IsFair}
+use Rattle.jr_images.proofs.Places.{scope_image}
 use Rattle.jr_images.proofs.World.{World}
 use Rattle.jr_images.proofs.Members.{plain_to}
 use Rattle.jr_kept_references.specs.InRegions.{StandsFor}
 use Rattle.jr_kept_references.proofs.RegionWorlds.{RegionWorld}
 use Rattle.jr_kept_references.proofs.Renamed.{same_type, world_of}
-use Rattle.jr_kept_references.proofs.RenamedPlaces.{renamed_stand, renamed_begin}
+use Rattle.jr_kept_references.specs.RegionPlaces.{Standing}
+use Rattle.jr_kept_references.proofs.RenamedPlaces.{At as Places, renamed_stand, renamed_begin, renamed_walk}
 use Rattle.jr_code.specs.RunKeys.{RunKeys}
 use Rattle.jr_code.specs.RunRows.{HasRow}
 use Rattle.jr_code.specs.CodedStatements.{numbers, StatementCode, ListCode}
@@ -46,14 +48,14 @@ use Rattle.jr_code.specs.CodedMembers.{ImplicitFinds, MethodCoded, ConstructorCo
 use Rattle.jr_image_code.specs.KnownPlaces.{IsKnown, IsPlace}
 use Rattle.jr_image_code.specs.KeysIn.{MapsAs, AreDeclared, CastsStay}
 use Rattle.jr_image_code.specs.CodeRelations.{Relations, AreExpsRelated, AreStmtsRelated}
-use Rattle.jr_image_code.specs.CodedSpots.{GoesByImages, StatementsCoded}
+use Rattle.jr_image_code.specs.CodedSpots.{CastsCoded, GoesByImages, StatementsCoded}
 use Rattle.jr_image_code.specs.MemberCodes.{CodesTo, MethodsTo, AllTo}
-use Rattle.jr_image_code.proofs.StmtImages.{HasNoRows}
+use Rattle.jr_image_code.proofs.StmtImages.{HasNoRows, number_below}
 use Rattle.jr_image_code.proofs.MemberImages as general
 use Rattle.jr_image_code.proofs.MemberImages.{Of}
 use Rattle.jr_image_code.proofs.ConstructorImages as constructors
 use Rattle.jr_image_code.proofs.InitImages as initializers
-use Rattle.jr_image_code.proofs.Renamed.{words_stay, no_spots}
+use Rattle.jr_image_code.proofs.Renamed.{words_stay, no_spots, casts_alike}
 use Rattle.jr_kept_runs.specs.KeysTo.{keys_to}
 use Rattle.jr_kept_runs.specs.CastsAgree.{CastsAgree}
 use Rattle.jr_kept_runs.proofs.KeptCode.{ToExp, ToTarget, ToExps, ToStmt, ToStmts, ToCode, ToMethod, literal_to, this_to, read_to, assign_to, compound_to, bump_to, signed_to, binary_to, both_to, either_to, cast_to, static_call_to, instance_call_to, super_call_to, create_to, super_constructor_to, local_to as kept_local, static_field_to, field_of_to, end_to, more_to, declare_to, eval_to, branch_to, loop_to, return_to, return_nothing_to, block_to, sync_to, empty_to, no_more_to, list_to}
@@ -163,9 +165,9 @@ module _ {A : Type 0} (tells : A → ℕ → Span) (last : A → ℕ → ℕ) (r
   abbrev Chosen : Choosing A
   Chosen = spelling (λ m b. (tells m b).from) rows g super_at
 
-  -- the next locals have the same number
-  abbrev At : (n z : ℕ) → Context → Context → Type 0
-  At n z c d = (n ≡ z) × ContextTo g rows c d
+  -- places of a rename
+  abbrev At : Standing A
+  At = Places tells rows g super_at worlds
 
   -- what is known of all places is known of those that stand for one another
   region_worlds : (c d : Context) → StandsFor (region_of {A = A} rows g) rows c d → RegionWorld A rows (region_of rows g) c d
@@ -188,13 +190,20 @@ module _ {A : Type 0} (tells : A → ℕ → Span) (last : A → ℕ → ℕ) (r
         stand = stand;
       }
 
-  casts_stay : (c : Context) → IsPlace rows c → CastsStay rows (region_of {A = A} rows g) c
-  casts_stay c place e t u type is_known = (
+  alike : (c : Context) → IsPlace rows c → CastsStay rows (region_of {A = A} rows g) c
+  alike c place e t u type is_known = (
     λ h. subst (λ (z : Ty). IsAssignable (rows_to g rows) (type_to g t) z) (same_type rows g u) (casts.forth t u h),
     λ h. casts.back t u (known c place e t type) is_known (subst (λ (z : Ty). IsAssignable (rows_to g rows) (type_to g t) z) (sym (same_type rows g u)) h),
   )
 
+  -- what an implicit `super()` finds
+  implicit_at : (c d : Context) → At.Known c d → (q n : CtorKey) → ImplicitFinds rows c q → ImplicitFinds (rows_to g rows) d n → n ≡ ctor_to g q
+  implicit_at c d stand = implicit c d (scope_image g rows c d stand)
+
   module _ (size : ℕ) where
+    casts_stay : (c d : Context) → IsPlace rows c → At.Known c d → CastsCoded tells rows (region_of rows g) (Kept keys R size) Chosen nowhere c d
+    casts_stay c d place stand = casts_alike tells rows g (Kept keys R size) Chosen c d (alike c place)
+
     goes : GoesByImages {A = A} rows (region_of rows g) keys R (Kept keys R size)
     goes = record { maps = maps; has = has; words = words_stay rows g; exps = kept_exps keys R size }
 
@@ -203,10 +212,9 @@ module _ {A : Type 0} (tells : A → ℕ → Span) (last : A → ℕ → ℕ) (r
 
     coded : StatementsCoded tells last rows (region_of rows g) (Kept keys R size) Chosen nowhere At size
     coded = record {
-      locals = λ n z c d at k m small image. (small, number_stays k m image);
-      own_locals = λ n z c d at l k m small image. (small, number_stays k m image);
-      declared = λ n z c d at small. (small, tt, sym at.0);
-      block = λ n z c d b xs q at made none fits. (λ i. numbers (sym at.0 i) (same_count_row tells Chosen n c b xs q made i));
+      locals = λ c d stand below k m name finds image. (number_below rows no_rows size c below k name finds, number_stays k m image);
+      declared = λ n z c d m f t w e at small. (small, tt, sym at.0);
+      block = λ n z c d b m xs q at made none fits. (λ i. numbers (sym at.0 i) (same_count_row tells Chosen n c b xs q made i));
       lists = λ n z c d b xs i ys at spot. absurd spot;
     }
 
@@ -215,22 +223,22 @@ module _ {A : Type 0} (tells : A → ℕ → Span) (last : A → ℕ → ℕ) (r
       → MethodCoded begins last rows places k base (syntax.method m mods t w ps body) x → MethodCoded begins last (rows_to g rows) places' (method_to g k) i o.tree y → ToMethod keys R x y
   method_image k j row types base m mods t w ps body o made none i x y old new =
       let size = length ps + locals_in_row body in
-      method_of keys R size x y (general.method_image tells last rows (region_of rows g) super_at nowhere refl At (renamed_stand tells rows g super_at worlds) (renamed_begin tells rows g super_at worlds) region_worlds
-      keys R (Kept keys R size) (goes size) (kept_stmts keys R size) no_rows casts_stay (no_spots begins rows g (Kept keys R size) tt (λ n. tt)) size (coded size) tt places places'
-      k refl j row types base m mods t w ps body (omega arith) o made none i x y old new)
+      method_of keys R size x y (general.method_image tells last rows (region_of rows g) super_at nowhere At (renamed_stand tells rows g super_at worlds) (renamed_begin tells rows g super_at worlds) (λ c d stand. refl) region_worlds
+      keys R (Kept keys R size) (goes size) (kept_stmts keys R size) no_rows (casts_stay size) (λ i o stand. no_spots begins rows g (Kept keys R size) tt (λ n. tt) i o) size (coded size) tt places places'
+      k refl j row types base m mods t w ps body tt (omega arith) o made none i x y old new)
 
   pub in_front_image : (size : ℕ) (ss ts : List StatementCode) (x y : ListCode) → AllTo (Kept keys R size) ss ts → ToStmts keys R size x y → ToStmts keys R size (in_front ss x) (in_front ts y)
-  in_front_image size ss ts x y all h = constructors.in_front_image tells last rows (region_of rows g) super_at nowhere refl At (renamed_stand tells rows g super_at worlds) (renamed_begin tells rows g super_at worlds) region_worlds
-      keys R (Kept keys R size) (goes size) (kept_stmts keys R size) no_rows casts_stay (no_spots begins rows g (Kept keys R size) tt (λ n. tt)) size (coded size) tt places places' are implicit ss ts x y all h
+  in_front_image size ss ts x y all h = constructors.in_front_image tells last rows (region_of rows g) super_at nowhere At (renamed_stand tells rows g super_at worlds) (renamed_begin tells rows g super_at worlds) (λ c d stand. refl) region_worlds
+      keys R (Kept keys R size) (goes size) (kept_stmts keys R size) no_rows (casts_stay size) (λ i o stand. no_spots begins rows g (Kept keys R size) tt (λ n. tt) i o) size (coded size) tt places places' are implicit_at ss ts x y all h
 
   pub implicit_row : (c : Context) (q : CtorKey) → ImplicitFinds rows c q → (j : ℕ) × IsRowOf rows (constructor_decl q) j
-  implicit_row c q finds = constructors.implicit_row tells last rows (region_of rows g) super_at nowhere refl At (renamed_stand tells rows g super_at worlds) (renamed_begin tells rows g super_at worlds) region_worlds
-      keys R (Kept keys R 0) (goes 0) (kept_stmts keys R 0) no_rows casts_stay (no_spots begins rows g (Kept keys R 0) tt (λ n. tt)) 0 (coded 0) tt places places' are implicit c q finds
+  implicit_row c q finds = constructors.implicit_row tells last rows (region_of rows g) super_at nowhere At (renamed_stand tells rows g super_at worlds) (renamed_begin tells rows g super_at worlds) (λ c d stand. refl) region_worlds
+      keys R (Kept keys R 0) (goes 0) (kept_stmts keys R 0) no_rows (casts_stay 0) (λ i o stand. no_spots begins rows g (Kept keys R 0) tt (λ n. tt) i o) 0 (coded 0) tt places places' are implicit_at c q finds
 
   pub parent_by : (size : ℕ) (q n : CtorKey) (j : ℕ) → IsRowOf rows (constructor_decl q) j → n ≡ ctor_to g q → (p o : At_of RunKeys) (es fs : core.Exps RunKeys) → ToExps keys R size es fs → (s t : StatementCode)
       → s ≡ core.eval p (core.super_constructor p (core.this None) q es) → t ≡ core.eval o (core.super_constructor o (core.this None) n fs) → ToStmt keys R size s t
-  parent_by size q n j row is p o es fs args s t a b = constructors.parent_by tells last rows (region_of rows g) super_at nowhere refl At (renamed_stand tells rows g super_at worlds) (renamed_begin tells rows g super_at worlds) region_worlds
-      keys R (Kept keys R size) (goes size) (kept_stmts keys R size) no_rows casts_stay (no_spots begins rows g (Kept keys R size) tt (λ n. tt)) size (coded size) tt places places' are implicit q n j row is p o es fs args s t a b
+  parent_by size q n j row is p o es fs args s t a b = constructors.parent_by tells last rows (region_of rows g) super_at nowhere At (renamed_stand tells rows g super_at worlds) (renamed_begin tells rows g super_at worlds) (λ c d stand. refl) region_worlds
+      keys R (Kept keys R size) (goes size) (kept_stmts keys R size) no_rows (casts_stay size) (λ i o stand. no_spots begins rows g (Kept keys R size) tt (λ n. tt) i o) size (coded size) tt places places' are implicit_at q n j row is p o es fs args s t a b
 
   pub constructor_image : (k : CtorKey) → HasRow rows (class_decl k.class) → ((t : Ty) → Of t k.params → IsKnown rows t) → (base : ℕ) (m : A) (mods : List (syntax.Modifier A)) (w : tree.Word A) (ps : List (syntax.Param A)) (args : Option (tree.Exps A)) (body : statement.Stmts A)
       → (o : Rewritten (syntax.Member A)) → RewritesMember tells Chosen (constructor k) base (syntax.constructor m mods w ps args body) o → o.losses ≡ [] → (i : ℕ) (ss ts : List StatementCode)
@@ -238,9 +246,9 @@ module _ {A : Type 0} (tells : A → ℕ → Span) (last : A → ℕ → ℕ) (r
       → ConstructorCoded begins last rows places k base ss (syntax.constructor m mods w ps args body) x → ConstructorCoded begins last (rows_to g rows) places' (ctor_to g k) i ts o.tree y → ToCode keys R x y
   constructor_image k row types base m mods w ps args body o made none i ss ts inits x y old new =
       let size = length ps + locals_in_row body in
-      code_of keys R size x y (constructors.constructor_image tells last rows (region_of rows g) super_at nowhere refl At (renamed_stand tells rows g super_at worlds) (renamed_begin tells rows g super_at worlds) region_worlds
-      keys R (Kept keys R size) (goes size) (kept_stmts keys R size) no_rows casts_stay (no_spots begins rows g (Kept keys R size) tt (λ n. tt)) size (coded size) tt places places' are implicit
-      k row types base m mods w ps args body (omega arith) o made none i ss ts (inits size) x y old new)
+      code_of keys R size x y (constructors.constructor_image tells last rows (region_of rows g) super_at nowhere At (renamed_stand tells rows g super_at worlds) (renamed_begin tells rows g super_at worlds) (λ c d stand. refl) region_worlds
+      keys R (Kept keys R size) (goes size) (kept_stmts keys R size) no_rows (casts_stay size) (λ i o stand. no_spots begins rows g (Kept keys R size) tt (λ n. tt) i o) size (coded size) tt places places' are implicit_at
+      k row types base m mods w ps args body tt (omega arith) o made none i ss ts (inits size) x y old new)
 
   -- ---- initializers
 
@@ -255,6 +263,6 @@ module _ {A : Type 0} (tells : A → ℕ → Span) (last : A → ℕ → ℕ) (r
 
     pub inits_walk : (of of' : ClassKey) → of' ≡ class_to g of → HasRow rows (class_decl of) → (b : ℕ) (ms : syntax.Members A) (q : Rewritten (syntax.Members A)) → RewritesMembers tells Chosen declarations b of ms q → q.losses ≡ []
         → Rowed b of ms → (ss ts : List StatementCode) → InitsCoded begins last rows places of b ms ss → InitsCoded begins last (rows_to g rows) places' of' b q.tree ts → Inits ss ts
-    inits_walk of of' to owner b ms q made none written ss ts old new size = initializers.inits_walk tells last rows (region_of rows g) super_at nowhere refl At (renamed_stand tells rows g super_at worlds) (renamed_begin tells rows g super_at worlds) region_worlds
-        keys R (Kept keys R size) (goes size) (kept_stmts keys R size) no_rows casts_stay (no_spots begins rows g (Kept keys R size) tt (λ n. tt)) size (coded size) tt places places' declarations (λ k row. refl) (λ of of' to b xs ys spot. absurd spot)
-        of of' to owner b ms q made none written ss ts old new
+    inits_walk of of' to owner b ms q made none written ss ts old new size = initializers.inits_walk tells last rows (region_of rows g) super_at nowhere At (renamed_stand tells rows g super_at worlds) (renamed_begin tells rows g super_at worlds) (λ c d stand. refl) region_worlds
+        keys R (Kept keys R size) (goes size) (kept_stmts keys R size) no_rows (casts_stay size) (λ i o stand. no_spots begins rows g (Kept keys R size) tt (λ n. tt) i o) size (coded size) tt places places' declarations (renamed_walk tells rows g super_at worlds declarations) (λ k row. refl) (λ of of' to b xs ys at spot. absurd spot)
+        of of' to owner b ms tt tt q made none written ss ts old new

@@ -172,7 +172,7 @@ module _ {A : Type 0} where
   synchronized_same : (ms ns : List (syntax.Modifier A)) → bare_modifiers ms ≡ bare_modifiers ns → is_synchronized ms ≡ is_synchronized ns
   synchronized_same ms ns e = synchronized_bare ms ∙ ap is_synchronized e ∙ sym (synchronized_bare ns)
 
-  static_same : (begins : A → ℕ → ℕ) (ms ns : List (syntax.Modifier A)) → bare_modifiers ms ≡ bare_modifiers ns → is_static_member begins ms ≡ is_static_member begins ns
+  pub static_same : (begins : A → ℕ → ℕ) (ms ns : List (syntax.Modifier A)) → bare_modifiers ms ≡ bare_modifiers ns → is_static_member begins ms ≡ is_static_member begins ns
   static_same begins ms ns e = ap (list_any is_static_word) (words_bare ms ∙ ap (map (λ (m : syntax.Modifier Bare). m.word)) e ∙ sym (words_bare ns))
 
   params_same : (ps qs : List (syntax.Param A)) → bare_params ps ≡ bare_params qs → length ps ≡ length qs

@@ -178,7 +178,7 @@ module _ (rows : List Row) (g : Renaming) (a : TablesAgree rows g) where
       let same : key.0 ≡ k = sym (undoes.class key.0) ∙ ap r.class (maps.class key.0 j there ∙ key.2) ∙ undoes.class k in
       subst (λ (z : ClassKey). IsRowOf rows (class_decl z) j) same there
 
-  field_there : (k : FieldKey) (j : ℕ) → IsRowOf (rows_to g rows) (field_decl (r.field k)) j → IsRowOf rows (field_decl k) j
+  pub field_there : (k : FieldKey) (j : ℕ) → IsRowOf (rows_to g rows) (field_decl (r.field k)) j → IsRowOf rows (field_decl k) j
   field_there k j i =
       let old = row_back g rows (field_decl (r.field k)) j i in
       let key = field_back g old.0 (r.field k) old.2 in
@@ -236,7 +236,7 @@ module _ (rows : List Row) (g : Renaming) (a : TablesAgree rows g) where
     new_row k j i = subst (λ (z : FieldKey). IsRowOf (rows_to g rows) (field_decl z) j) (sym (maps.field k j i)) (row_image g rows (field_decl k) j i)
 
     -- the row of the image
-    new_is : (k : FieldKey) (j : ℕ) (i : IsRowOf rows (field_decl k) j) (n : IsRowOf (rows_to g rows) (field_decl (r.field k)) j) → n.row ≡ row_to g i.row
+    pub new_is : (k : FieldKey) (j : ℕ) (i : IsRowOf rows (field_decl k) j) (n : IsRowOf (rows_to g rows) (field_decl (r.field k)) j) → n.row ≡ row_to g i.row
     new_is k j i n = let p : Some n.row ≡ Some (row_to g i.row) = sym n.stands ∙ (row_image g rows (field_decl k) j i).stands in cc
 
     kind_same : (k : FieldKey) → S.field_kind (r.field k) ≡ R.field_kind k

@@ -1,5 +1,9 @@
 //! Laws on kept runs, each the contract of a function that does nothing.
-ghost use Rattle.jr_kept_runs.specs.Laws.{RenamesKeepRuns};
+ghost use Rattle.jr_kept_runs.specs.Laws.{
+  RenamesKeepFirstValues,
+  RenamesKeepHistories,
+  RenamesKeepRuns,
+};
 
 use jr_members::members_are_written;
 use jr_spell::spellings_rebind;
@@ -16,4 +20,15 @@ pub fn renames_keep_runs()
     spellings_rebind::<Span>();
     lookups_are_exact();
     types_are_exact::<Span>();
+}
+
+/// In the second of these programs each static field begins with the image of what it begins with
+/// in the first. So what several threads do together, with starts and sequential memory (JLS 17.4),
+/// is the same in both: each history of either is one of the other.
+pub fn renames_keep_histories()
+    ensures first_values { RenamesKeepFirstValues }
+    ensures histories { RenamesKeepHistories }
+{
+    members_are_written::<Span>();
+    renames_keep_runs();
 }

@@ -66,7 +66,7 @@ module _ {K : Keys} {A : Type 0} (begins ends : A → ℕ → ℕ) (X : Known K 
   abbrev seen : tree.Exp A → ℕ → List ℕ → tree.Exp Spot
   seen e base p = spot_exp begins ends e base p
 
-  class_same : (e : tree.Exp A) (base : ℕ) (p : List ℕ) → is_class_name X e ≡ is_class_name Y (seen e base p)
+  pub class_same : (e : tree.Exp A) (base : ℕ) (p : List ℕ) → is_class_name X e ≡ is_class_name Y (seen e base p)
   unfolding spot_exp spot_exps
   class_same (tree.name m w) base p = let k = same.marks w.mark (begins m base) (onto p 0) in λ i. is_none (k.variable i) && k.is_class i
   class_same (tree.field m e w) base p = let k = same.marks w.mark (begins m base) (onto p 1) in λ i. is_none (k.variable i) && k.is_class i
@@ -123,7 +123,7 @@ module _ {K : Keys} {A : Type 0} (begins ends : A → ℕ → ℕ) (X : Known K 
   check_same (tree.assign m t e) base p = refl
   check_same (tree.compound m o t e) base p = refl
 
-  load_same : (t : tree.Exp A) (base : ℕ) (p : List ℕ) → target_load X t ≡ target_load Y (seen t base p)
+  pub load_same : (t : tree.Exp A) (base : ℕ) (p : List ℕ) → target_load X t ≡ target_load Y (seen t base p)
   unfolding spot_exp spot_exps
   load_same (tree.name m w) base p = let k = same.marks w.mark (begins m base) (onto p 0) in λ i. load_of (k.first i) (k.variable i)
   load_same (tree.field m e w) base p = let k = same.marks w.mark (begins m base) (onto p 1) in
@@ -175,7 +175,7 @@ module _ {K : Keys} {A : Type 0} (begins ends : A → ℕ → ℕ) (X : Known K 
   mutual
     unfolding spot_exp spot_exps
 
-    exp_same : (e : tree.Exp A) (base : ℕ) (p : List ℕ) → ExpCasts begins ends X Y e base p → exp_way X e ≡ exp_way Y (seen e base p)
+    pub exp_same : (e : tree.Exp A) (base : ℕ) (p : List ℕ) → ExpCasts begins ends X Y e base p → exp_way X e ≡ exp_way Y (seen e base p)
     exp_same (tree.number m v) base p c = refl
     exp_same (tree.truth m v) base p c = refl
     exp_same (tree.null m) base p c = refl
@@ -236,7 +236,7 @@ module _ {K : Keys} {A : Type 0} (begins ends : A → ℕ → ℕ) (X : Known K 
         let rest = row_same es base p (suc n) c.1 in
         λ i. row (own i) (rest i)
 
-    operand_same : (t : tree.Exp A) (base : ℕ) (p : List ℕ) → ExpCasts begins ends X Y t base p → operand_way X t ≡ operand_way Y (seen t base p)
+    pub operand_same : (t : tree.Exp A) (base : ℕ) (p : List ℕ) → ExpCasts begins ends X Y t base p → operand_way X t ≡ operand_way Y (seen t base p)
     operand_same (tree.field m e w) base p c =
         let own = exp_same e (begins m base) (onto p 0) c in
         λ i. unless (class_same e (begins m base) (onto p 0) i) (own i)
@@ -269,7 +269,7 @@ module _ {K : Keys} {A : Type 0} (begins ends : A → ℕ → ℕ) (X : Known K 
   mutual
     unfolding spot_stmt spot_else spot_stmts
 
-    stmt_same : (s : statement.Stmt A) (base : ℕ) (p : List ℕ) → StmtCasts begins ends X Y s base p → stmt_way X s ≡ stmt_way Y (spot_stmt begins ends s base p)
+    pub stmt_same : (s : statement.Stmt A) (base : ℕ) (p : List ℕ) → StmtCasts begins ends X Y s base p → stmt_way X s ≡ stmt_way Y (spot_stmt begins ends s base p)
     stmt_same (statement.local m is_final t w e) base p c =
         let k = same.marks w.mark (begins m base) (onto p 1) in
         let own = exp_same e (begins m base) (onto p 2) c.1 in
@@ -299,7 +299,7 @@ module _ {K : Keys} {A : Type 0} (begins ends : A → ℕ → ℕ) (X : Known K 
     else_same statement.no_else base p c = refl
     else_same (statement.otherwise s) base p c = stmt_same s base p c
 
-    list_same : (b : statement.Stmts A) (base : ℕ) (p : List ℕ) (n : ℕ) → ListCasts begins ends X Y b base p n → stmts_way X b ≡ stmts_way Y (spot_stmts begins ends b base p n)
+    pub list_same : (b : statement.Stmts A) (base : ℕ) (p : List ℕ) (n : ℕ) → ListCasts begins ends X Y b base p n → stmts_way X b ≡ stmts_way Y (spot_stmts begins ends b base p n)
     list_same statement.end base p n c = refl
     list_same (statement.more s ss) base p n c =
         let own = stmt_same s base (onto p n) c.0 in

@@ -8,8 +8,9 @@ use jr_bind::Bound;
 use jr_table::{Decl, Facts};
 use std::alloc::{AllocError, Global};
 
-/// The byte of the file where a reference begins. No text has more bytes than there are numbers.
-fn place_of(start: u32, at: u32) -> Result<u32, AllocError>
+/// The byte of a file, of one that is counted from the first byte of a member. No text has more
+/// bytes than there are numbers. The only fault is want of memory.
+pub fn place_of(start: u32, at: u32) -> Result<u32, AllocError>
     ensures { IfOk result (λ n. n ≡ start + at) }
 {
     match start.checked_add(at) {

@@ -34,22 +34,22 @@ use Rattle.jr_local_names.proofs.Finding.{finds_one, binds_local, local_bound}
 use Rattle.jr_local_names.proofs.Parts.{part_binds, part_breaks, starts_there}
 
 module _ (written : MembersAreWritten Span) (placed : PartsArePlaced) (p : Program Span) (program : IsProgram itself (λ m b. Unit {0}) p) (file : ℕ) (b : Body) (h : HasBody p file b) where
-  abbrev w : WrittenMember Span
+  abbrev pub w : WrittenMember Span
   w = h.member
 
-  abbrev units : List (syntax.Unit Span)
+  abbrev pub units : List (syntax.Unit Span)
   units = units_of p
 
-  is_written : IsWritten begins units w.file w.key w.base w.part
+  pub is_written : IsWritten begins units w.file w.key w.base w.part
   is_written = (written begins units p.rows program.are_rows program.rows).each w (at_contains (written_members begins p.rows units) h.number w h.written)
 
   -- what the member binds and breaks stands in it, and one declaration at one place
-  record Places : Type 0 where
-    within : (at : ℕ) (d : Decl) → Binds begins p.rows (p.super_at w.key) w.key w.base w.part at d → (part_mark w.part).from ≤ at
-    breaks_within : (at : ℕ) (k : Rule) → Breaks begins p.rows (p.super_at w.key) w.key w.base w.part at k → (part_mark w.part).from ≤ at
-    one : (at : ℕ) (d e : Decl) → Binds begins p.rows (p.super_at w.key) w.key w.base w.part at d → Binds begins p.rows (p.super_at w.key) w.key w.base w.part at e → d ≡ e
+  pub record Places : Type 0 where
+    pub within : (at : ℕ) (d : Decl) → Binds begins p.rows (p.super_at w.key) w.key w.base w.part at d → (part_mark w.part).from ≤ at
+    pub breaks_within : (at : ℕ) (k : Rule) → Breaks begins p.rows (p.super_at w.key) w.key w.base w.part at k → (part_mark w.part).from ≤ at
+    pub one : (at : ℕ) (d e : Decl) → Binds begins p.rows (p.super_at w.key) w.key w.base w.part at d → Binds begins p.rows (p.super_at w.key) w.key w.base w.part at e → d ≡ e
 
-  places : Places
+  pub places : Places
   places =
       let wr = is_written in
       let f = map_some (λ (x : File Span). x.unit) (slice_get p.files w.file) wr.unit (sym (slice_get-map (λ (x : File Span). x.unit) p.files w.file) ∙ wr.stands) in
@@ -71,7 +71,7 @@ module _ (written : MembersAreWritten Span) (placed : PartsArePlaced) (p : Progr
       }
 
   -- it breaks nothing
-  calm : (at : ℕ) (k : Rule) → Breaks begins p.rows (p.super_at w.key) w.key w.base w.part ((part_mark w.part).from + at) k → ⊥
+  pub calm : (at : ℕ) (k : Rule) → Breaks begins p.rows (p.super_at w.key) w.key w.base w.part ((part_mark w.part).from + at) k → ⊥
   calm at k breaks =
       program.sound w.key (record { at = at; rule = k })
       (written_member begins units (λ l base part. Breaks begins p.rows (p.super_at l) l base part (begins (part_mark part) base + at) k) w.file w.key w.base w.part is_written breaks)

@@ -232,7 +232,7 @@ fn in_list<'a>(
 }
 
 /// Past a statement, to the number of the next local.
-pub(crate) fn behind_stmt(next: u32, of: &Stmt<Span>) -> Result<u32, AllocError>
+pub fn behind_stmt(next: u32, of: &Stmt<Span>) -> Result<u32, AllocError>
     ensures { IfOk result (λ n. n ≡ next + locals_in (stmt_of of.now)) }
 {
     let walk = in_stmt(Wanted::Nobody, next, None, of)?;

@@ -19,7 +19,7 @@ mod places;
 mod scopes;
 mod taken;
 
-pub use declarations::{Declaration, count_locals, declaration_of, first_declared};
+pub use declarations::{Declaration, behind_stmt, count_locals, declaration_of, first_declared};
 pub use laws::{declarations_have_ways, declared_names, ways_are_declared};
 pub use names::{Naming, first_target, namings, only_read};
 pub use places::{ExtractPlace, InlinePlace, extract_place, inline_place};

@@ -3,13 +3,14 @@
 -- and by a region's images. `Seeing`, `Rooms`, `Left`: the mappings agree with the regions.
 -- `Orders`, `Below`: along a body locals are in order. `Instead`: what is rewritten by some choices and spots
 -- is rewritten so by others that follow from these; `Leading`: by a region that agrees.
+-- Crates above cite `Agreeing` and `Rooms`.
 mod Lasts
-mod Agreeing
+pub mod Agreeing
 mod Kept
 mod Classes
 mod Numbers
 mod Seeing
-mod Rooms
+pub mod Rooms
 mod Left
 mod Orders
 mod Below

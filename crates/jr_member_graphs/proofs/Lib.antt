@@ -4,9 +4,9 @@
 -- `MemberFlags`: those of each kind of member. `NumberedLocals`: initializers stand in the order of
 -- numbers. `NoNulls`: what is never null comes to no null.
 mod Writes
-mod Assigned
+pub mod Assigned
 mod MemberFlagging
-mod Telling
+pub mod Telling
 mod Gathered
 mod FlagSteps
 mod MemberFlags

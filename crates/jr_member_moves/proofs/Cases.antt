@@ -14,7 +14,7 @@ use Rattle.jr_rewrite.specs.Rewritten.{change}
 use Rattle.jr_rewrite.specs.Woven.{with_changes}
 use Rattle.jr_rewrite.specs.Edited.{entries_of}
 use Rattle.jr_member_moves.specs.Places.{field_moved, method_moved, rows_with}
-use Rattle.jr_member_moves.specs.Selecting.{is_in_the_way}
+use Rattle.jr_member_parts.specs.InTheWay.{is_in_the_way}
 use Rattle.jr_member_moves.specs.Texts.{at_byte, open_monitor}
 use Rattle.jr_member_moves.specs.Moves.{is_synchronized}
 

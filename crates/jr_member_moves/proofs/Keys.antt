@@ -11,8 +11,9 @@ use Rattle.jr_table.specs.Entries.{IsRowOf}
 use Rattle.jr_members.specs.WrittenMembers.{decl_of_member}
 use Rattle.jr_bind.specs.Programs.{Program}
 use Rattle.jr_images.specs.Regions.{Images, image_of_member}
-use Rattle.jr_member_moves.specs.Places.{in_class, field_moved, method_moved, moved_images}
-use Rattle.jr_member_moves.specs.Selecting.{is_in_the_way}
+use Rattle.jr_member_parts.specs.InTheWay.{in_class}
+use Rattle.jr_member_moves.specs.Places.{field_moved, method_moved, moved_images}
+use Rattle.jr_member_parts.specs.InTheWay.{is_in_the_way}
 use Rattle.jr_member_moves.specs.PullUp.{key}
 use Rattle.jr_member_moves.specs.Laws.{OthersStay, IsMove, PullsUpMove, MovesStaticMove}
 

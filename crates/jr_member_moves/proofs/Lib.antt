@@ -4,3 +4,4 @@ pub mod Keys
 pub mod Apart
 mod Cases
 mod StaticCases
+mod InstanceCases

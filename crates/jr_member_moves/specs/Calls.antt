@@ -34,7 +34,7 @@ use Rattle.jr_images.specs.Words.{InFront, FindsBehind, FirstWord}
 use Rattle.jr_images.specs.Regions.{Region}
 use Rattle.jr_images.specs.Spelling.{TakenChoice, choosing, there, reference, behind_words, operand_of}
 use Rattle.jr_local.specs.Bodies.{begins}
-use Rattle.jr_member_moves.specs.Places.{in_class}
+use Rattle.jr_member_parts.specs.InTheWay.{in_class}
 
 -- ---- the class in front
 

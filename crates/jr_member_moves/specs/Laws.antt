@@ -1,4 +1,4 @@
--- What holds of the keys of a member that goes to another class, and of pull up.
+-- What holds of the keys of a member that goes to another class, and of the spots of each move.
 use Rattle.std.specs.Prelude.{◌≡◌, ◌≢◌, ℕ, List}
 use Rattle.jr_text.specs.declared.spans.Span.{Span}
 use Rattle.jr_table.specs.Keys.{ClassKey, FieldKey, CtorKey}
@@ -10,9 +10,11 @@ use Rattle.jr_bind.specs.Programs.{Program}
 use Rattle.jr_rewrite.specs.Spots.{SpotsAreApart}
 use Rattle.jr_images.specs.Regions.{Images, image_of_member}
 use Rattle.jr_plan.specs.Transforms.{Transform}
-use Rattle.jr_member_moves.specs.Places.{in_class, field_moved}
+use Rattle.jr_member_parts.specs.InTheWay.{in_class}
+use Rattle.jr_member_moves.specs.Places.{field_moved}
 use Rattle.jr_member_moves.specs.PullUp.{Found, key, pull_up}
 use Rattle.jr_member_moves.specs.MoveStatic as static
+use Rattle.jr_member_moves.specs.MoveInstance as instance
 
 -- a field that isn't the member has its key
 abbrev pub OthersStay : Type 0
@@ -69,3 +71,16 @@ abbrev pub MoveStaticIsApart : Type 0
 MoveStaticIsApart = (p : Program Span) (file at : ℕ) (text : List ℕ)
     (f : static.Found p file at text) (n : ℕ)
     → SpotsAreApart ((moved_over p file at text f).spots n)
+
+-- ---- move instance
+
+module _ (p : Program Span) (file at : ℕ) (text name : List ℕ)
+    (f : instance.Found p file at text name) where
+  abbrev pub moved_out : Transform
+  moved_out = (instance.move_instance p file at text name).transform f
+
+-- Its spots are used.
+abbrev pub MoveInstanceIsApart : Type 0
+MoveInstanceIsApart = (p : Program Span) (file at : ℕ) (text name : List ℕ)
+    (f : instance.Found p file at text name) (n : ℕ)
+    → SpotsAreApart ((moved_out p file at text name f).spots n)

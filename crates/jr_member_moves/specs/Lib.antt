@@ -6,3 +6,7 @@ pub mod Moves
 pub mod PullUp
 pub mod MoveStatic
 pub mod Laws
+pub mod StaticBodies
+pub mod Delegates
+pub mod InstanceMoves
+pub mod MoveInstance

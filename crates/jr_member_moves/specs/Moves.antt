@@ -1,7 +1,7 @@
 -- What a program becomes where a member goes to the end of another class: a spot in the list of
 -- members from which it goes, one at the class to which it comes, and of a static method that is moved
 -- one at each call through a class.
-use Rattle.std.specs.Prelude.{◌≡◌, ◌⊎◌, ℕ, ◌+◌, ◌-◌, nat_eq, Bool, true, false, ◌&&◌, List, [], ◌∷◌, ◌++◌, map, Option, Some, slice_get, ◌||◌, sum_by, length}
+use Rattle.std.specs.Prelude.{◌≡◌, ◌⊎◌, ℕ, ◌+◌, ◌-◌, nat_eq, Bool, true, false, ◌&&◌, List, [], ◌∷◌, ◌++◌, map, Option, Some, slice_get, ◌||◌}
 use Rattle.std.specs.List.{list_any}
 use Rattle.jr_text.specs.declared.spans.Span.{Span}
 use Rattle.jr_lex.specs.declared.items.Item.{Item}
@@ -21,10 +21,10 @@ use Rattle.jr_table.specs.HeadRules.{plain as no_locals}
 use Rattle.jr_table.specs.Context.{Context}
 use Rattle.jr_table.specs.Errors.{class_part}
 use Rattle.jr_members.specs.WrittenMembers.{WrittenMember, written_members}
-use Rattle.jr_bind.specs.Programs.{File, Program, units_of}
+use Rattle.jr_bind.specs.Programs.{Program, units_of}
 use Rattle.jr_rewrite.specs.Respellings.{Loss, Change}
 use Rattle.jr_rewrite.specs.Rewritten.{Rewritten, plain, change}
-use Rattle.jr_rewrite.specs.Spots.{Spots, Spotted, nowhere, spotted}
+use Rattle.jr_rewrite.specs.Spots.{Spotted, nowhere}
 use Rattle.jr_rewrite.specs.Rewrites.{
   Choosing,
   RewritesHead,
@@ -46,6 +46,8 @@ use Rattle.jr_member_moves.specs.Selecting.{
   is_static,
 }
 use Rattle.jr_member_moves.specs.Calls.{IsThroughClass, Calls, calls_in}
+use Rattle.jr_member_parts.specs.Receivers.{depth_of}
+use Rattle.jr_member_parts.specs.TwoPlaces.{TwoPlaces, spots_if}
 use Rattle.jr_member_moves.specs.Texts.{
   AreDropped,
   IsWrapped,
@@ -126,15 +128,11 @@ module _ (p : Program Span) (file at : ℕ) (x : Declared p file at) (to : Class
 
     -- ---- calls of the method through a class
 
-    -- no more of them stand within one another than the files have bytes
-    abbrev pub depth : ℕ
-    depth = sum_by (λ (f : File Span). length f.text) p.files
-
     -- where nothing comes or goes: a pull up leaves such calls as they are asked, since the class
     -- inherits the method
     abbrev pub calls_of : Journey → Region Span → Spotted Span
     calls_of upward R = nowhere
-    calls_of aside R = calls_in p x.member.key to R depth
+    calls_of aside R = calls_in p x.member.key to R (depth_of p)
 
     abbrev pub Call : Journey → Context → (base : ℕ) → tree.Exp Span → Rewritten (tree.Exp Span)
         → Type 0
@@ -207,52 +205,16 @@ module _ (p : Program Span) (file at : ℕ) (x : Declared p file at) (to : Class
               losses = p.losses ++ q.losses;
             })
 
-        -- spots of which each may stand within the other: the class holds the member's class as a
-        -- member, or the other way round
-        abbrev pub goes_alone : Spots Span
-        goes_alone = record {
-          part = λ k c r base e o. Call j c base e o;
-          part_stays = λ k c r base e. IsNoCall j c e;
-          list = λ n c base xs o. ⊥;
-          list_stays = λ n c base xs. Unit {0};
-          members = λ base of ys o. Goes (calls_of j around) base of ys o;
-          members_stay = λ base of ys. IsHeld of ys → ⊥;
-          whole = λ base outer d o. ⊥;
-          whole_stays = λ base outer d. Unit {0};
-          this_stays = Unit {0};
+        abbrev pub places : TwoPlaces
+        places = record {
+          beside = calls_of j around;
+          Part = Call j;
+          PartStays = IsNoCall j;
+          IsHeld = IsHeld;
+          Goes = Goes;
+          IsNewClass = IsNewClass;
+          Comes = Comes;
         }
-
-        abbrev pub comes_alone : Spots Span
-        comes_alone = record {
-          part = λ k c r base e o. Call j c base e o;
-          part_stays = λ k c r base e. IsNoCall j c e;
-          list = λ n c base xs o. ⊥;
-          list_stays = λ n c base xs. Unit {0};
-          members = λ base of ys o. ⊥;
-          members_stay = λ base of ys. Unit {0};
-          whole = λ base outer d o. Comes (calls_of j around) base outer d o;
-          whole_stays = λ base outer d. IsNewClass outer d → ⊥;
-          this_stays = Unit {0};
-        }
-
-        abbrev pub both_spots : Spots Span
-        both_spots = record {
-          part = λ k c r base e o. Call j c base e o;
-          part_stays = λ k c r base e. IsNoCall j c e;
-          list = λ n c base xs o. ⊥;
-          list_stays = λ n c base xs. Unit {0};
-          members = λ base of ys o. Goes (spotted comes_alone) base of ys o;
-          members_stay = λ base of ys. IsHeld of ys → ⊥;
-          whole = λ base outer d o. Comes (spotted goes_alone) base outer d o;
-          whole_stays = λ base outer d. IsNewClass outer d → ⊥;
-          this_stays = Unit {0};
-        }
-
-        abbrev pub spots_if : (goes comes : Bool) → Spotted Span
-        spots_if true true = spotted both_spots
-        spots_if true false = spotted goes_alone
-        spots_if false true = spotted comes_alone
-        spots_if false false = calls_of j around
 
 -- ---- the class to which it goes
 
@@ -292,8 +254,8 @@ module _ (p : Program Span) (file at : ℕ) (x : Declared p file at) (to : Class
       put_change = change (at_byte ((class_mark f.written.declaration).to - 1)) f.put
 
       abbrev pub spots_of : ℕ → Spotted Span
-      spots_of n = spots_if p file at x to j f.moved f.gone put_change
-          (declarations_of begins (units_of p)) (nat_eq n file) (nat_eq n f.written.class.file)
+      spots_of n = spots_if (places p file at x to j f.moved f.gone put_change
+          (declarations_of begins (units_of p))) (nat_eq n file) (nat_eq n f.written.class.file)
 
       -- the class that the monitor names, where it has no spelling; its place is the step's
       abbrev pub lost_lock : List Lost

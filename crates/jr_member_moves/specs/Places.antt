@@ -1,29 +1,22 @@
 -- What is seen of the new program where a field or method goes to the body of another class: keys,
 -- rows, and the scopes of places in the member and of all others.
-use Rattle.std.specs.Prelude.{ℕ, Bool, true, false, not, ◌||◌, List, [], ◌∷◌, map, filter, Option, Some, None, if◌then◌else◌}
-use Rattle.std.specs.List.{list_any}
+use Rattle.std.specs.Prelude.{Bool, true, false, not, List, [], ◌∷◌, map, filter, Some, if◌then◌else◌}
 use Rattle.jr_text.specs.declared.spans.Span.{Span}
 use Rattle.jr_ast.specs.declared.operators.ModWord.{ModWord}
 use Rattle.jr_ast.specs.Tree as tree
 use Rattle.jr_table.specs.Keys.{ClassKey, FieldKey, MethodKey, Ty, class}
-use Rattle.jr_table.specs.Decls.{MemberKey, field, method, LocalKey, Decl, class_decl, field_decl, method_decl, constructor_decl, local_decl}
-use Rattle.jr_table.specs.SameKeys.{same_name, same_class}
+use Rattle.jr_table.specs.Decls.{MemberKey, field, method, LocalKey}
 use Rattle.jr_table.specs.SameDecls.{same_member, same_decl}
 use Rattle.jr_table.specs.Rows.{Row}
-use Rattle.jr_table.specs.Entries.{class_of_member}
 use Rattle.jr_table.specs.Scope.{ScopeLocal}
 use Rattle.jr_table.specs.Context.{Context, scope_of}
 use Rattle.jr_members.specs.WrittenMembers.{decl_of_member}
 use Rattle.jr_images.specs.Regions.{Images, Seen, Region, image_of_member, itself}
 use Rattle.jr_local.specs.Scopes.{HasKeptClass, plain_region}
+use Rattle.jr_member_parts.specs.ClassRows.{is_in_body, put_behind}
+use Rattle.jr_member_parts.specs.InTheWay.{in_class}
 
 -- ---- keys
-
--- the key of a field or method in a class
-abbrev pub in_class : ClassKey → MemberKey → MemberKey
-in_class to (field k) = field (record { class = to; name = k.name })
-in_class to (method k) = method (record { class = to; name = k.name; params = k.params })
-in_class to k = k
 
 module _ (moved : MemberKey) (to : ClassKey) where
   abbrev pub field_moved : FieldKey → FieldKey
@@ -35,33 +28,6 @@ module _ (moved : MemberKey) (to : ClassKey) where
       then record { class = to; name = k.name; params = k.params } else k
 
 -- ---- rows
-
--- a class of this outer class is a member of the class that has this outer class and name
-abbrev pub is_inside : (outer : Option (List ℕ)) → (name : List ℕ) → Option (List ℕ) → Bool
-is_inside (Some o) name of = false
-is_inside None name None = false
-is_inside None name (Some o) = same_name o name
-
--- a member class of the class
-abbrev pub is_member_class : (of k : ClassKey) → Bool
-is_member_class of k = is_inside of.outer of.name k.outer
-
-abbrev pub class_of_decl : Decl → ClassKey
-class_of_decl (class_decl k) = k
-class_of_decl (field_decl k) = k.class
-class_of_decl (method_decl k) = k.class
-class_of_decl (constructor_decl k) = k.class
-class_of_decl (local_decl k) = class_of_member k.member
-
--- the row is that of the class, or of something in its body, member classes included
-abbrev pub is_in_body : ClassKey → Row → Bool
-is_in_body of r = same_class (class_of_decl r.decl) of || is_member_class of (class_of_decl r.decl)
-
--- behind the last row that passes the test
-abbrev pub put_behind : (Row → Bool) → Row → List Row → List Row
-put_behind test r [] = []
-put_behind test r (x ∷ xs) = if list_any test xs then x ∷ put_behind test r xs
-    else (if test x then x ∷ r ∷ xs else x ∷ xs)
 
 -- a member's row in the class, without some of its modifiers
 abbrev pub row_in_class : (drops : ModWord → Bool) → ClassKey → MemberKey → Row → Row

@@ -1,23 +1,22 @@
 -- The field or method that an identifier declares, the superclass to which it is pulled up, and why
 -- that is refused by itself.
-use Rattle.std.specs.Prelude.{◌≡◌, ◌⊎◌, ℕ, ◌<◌, ◌≤◌, Bool, true, false, ◌||◌, ◌&&◌, List, Option, Some, None, codes, slice_get}
+use Rattle.std.specs.Prelude.{◌≡◌, ◌⊎◌, ℕ, ◌<◌, ◌≤◌, Bool, true, false, List, Option, Some, None, codes, slice_get}
 use Rattle.std.specs.List.{list_any}
 use Rattle.jr_text.specs.declared.spans.Span.{Span}
 use Rattle.jr_ast.specs.Tree as tree
 use Rattle.jr_ast.specs.MemberTree as syntax
 use Rattle.jr_table.specs.Keys.{ClassKey}
-use Rattle.jr_table.specs.Decls.{MemberKey, head, field, method, constructor, Decl, class_decl}
-use Rattle.jr_table.specs.SameDecls.{same_decl}
+use Rattle.jr_table.specs.Decls.{Decl, class_decl}
 use Rattle.jr_table.specs.Rows.{Row}
 use Rattle.jr_table.specs.Entries.{class_of_member, is_static_word}
 use Rattle.jr_table.specs.Context.{IsSuperclass}
 use Rattle.jr_table.specs.Errors.{member_part}
 use Rattle.jr_names.specs.Refusals.{Refusal, bad_target, clash}
-use Rattle.jr_members.specs.WrittenMembers.{WrittenMember, written_members, decl_of_member}
+use Rattle.jr_members.specs.WrittenMembers.{WrittenMember, written_members}
 use Rattle.jr_bind.specs.Programs.{Program, units_of}
 use Rattle.jr_images.specs.Targets.{IsOfPrelude}
 use Rattle.jr_local.specs.Bodies.{begins}
-use Rattle.jr_member_moves.specs.Places.{in_class, is_member_class}
+use Rattle.jr_member_parts.specs.InTheWay.{is_in_the_way, IsFirstInTheWay}
 
 -- the mark, and the declared name, of a field or method
 abbrev pub mark_of : syntax.Member Span → Span
@@ -53,33 +52,6 @@ module _ {p : Program Span} {file at : ℕ} (x : Declared p file at) where
 
   abbrev pub is_static : Bool
   is_static = list_any is_static_word x.row.modifiers
-
--- what stands in its way in a class: its own key there, or a member type of its name
-abbrev pub name_of : MemberKey → List ℕ
-name_of (head k) = k.name
-name_of (field k) = k.name
-name_of (method k) = k.name
-name_of (constructor k) = k.class.name
-
-abbrev pub is_type_named : ClassKey → List ℕ → Decl → Bool
-is_type_named of name (class_decl k) =
-    is_member_class of k && same_decl (class_decl k) (class_decl (record { outer = k.outer; name = name }))
-is_type_named of name _ = false
-
-abbrev pub is_in_the_way : ClassKey → MemberKey → Row → Bool
-is_in_the_way to moved r = same_decl r.decl (decl_of_member (in_class to moved))
-    || is_type_named to (name_of moved) r.decl
-
--- the first row that is
-pub record IsFirstInTheWay (rows : List Row) (to : ClassKey) (moved : MemberKey) (d : Decl)
-    : Type 0 where
-  pub number : ℕ
-  pub row : Row
-  pub stands : slice_get rows number ≡ Some row
-  pub is : is_in_the_way to moved row ≡ true
-  pub decl : row.decl ≡ d
-  pub first : (i : ℕ) (r : Row) → i < number → slice_get rows i ≡ Some r
-      → is_in_the_way to moved r ≡ false
 
 module _ (p : Program Span) (file at : ℕ) where
   abbrev pub needs : (need : List ℕ) → Refusal

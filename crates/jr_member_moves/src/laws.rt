@@ -1,10 +1,11 @@
-//! What holds of keys, and of what pull up and move static make of a program.
+//! What holds of keys, and of what each move makes of a program.
 ghost use Rattle.jr_member_moves.specs.Laws.{
   OthersStay,
   PullsUpMove,
   PullUpIsApart,
   MovesStaticMove,
   MoveStaticIsApart,
+  MoveInstanceIsApart,
 };
 
 /// A member that doesn't move keeps its key (JLS 8.2).
@@ -33,4 +34,10 @@ pub fn moves_static_move()
 /// class, in whose arguments others may stand.
 pub fn move_static_is_apart()
     ensures { MoveStaticIsApart }
+{}
+
+/// The spots of a move instance are used: the list from the method on, and the class to which its body
+/// comes.
+pub fn move_instance_is_apart()
+    ensures { MoveInstanceIsApart }
 {}

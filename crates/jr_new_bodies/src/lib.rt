@@ -47,6 +47,7 @@ mod walk;
 pub use called::super_ctor_choice;
 pub use here::{Here, next};
 pub use outputs::{Output, keep_loss, new_output, put_alone};
+pub use places::{declare, leave_own};
 pub use spots::{PartSpot, Spots};
 pub use statements::{maybe, stmt, stmts};
 pub use type_names::written_type;

@@ -108,7 +108,7 @@ pub(crate) fn called_on_super<A: Mark>(
 }
 
 /// The class and the constructor of a creation that begins at `at`.
-pub(crate) fn creation_words<A: Mark>(
+fn creation_words<A: Mark>(
     alloc: Global,
     here: &Here<'_>,
     path: &Path,
@@ -133,4 +133,30 @@ pub(crate) fn creation_words<A: Mark>(
     let choice = creation_choice(alloc, here, path, at, ty, args)?;
     keep_loss(choice, out)?;
     written_type(alloc, here, at, ty, out)
+}
+
+/// The same of a class in a box.
+pub(crate) fn boxed_creation_words<A: Mark>(
+    alloc: Global,
+    here: &Here<'_>,
+    path: &Path,
+    at: u32,
+    ty: &Box<TypeRef<A>>,
+    args: &[Expr<A>],
+    out: &mut Output,
+) -> Result<(), AllocError>
+    requires known { IsKnown here.now }
+    requires fits { FitsType (λ m b. (A.span_from m b).from) A.fits_at at (type_of ty.now.value) }
+    requires created { TypesCreation here.now (context_of here.now) path.now.steps.items
+        (type_of ty.now.value) (exprs_of args.now) }
+    requires types { TypesRow here.now (context_of here.now) path.now.steps.items 1
+        (exprs_of args.now) }
+    requires type_bound { TypeIsBound (λ m b. (A.span_from m b).from) (rows_of here.now)
+        (context_of here.now) at (type_of ty.now.value) }
+    requires bound { pure.CreationIsBound (λ m b. (A.span_from m b).from) (rows_of here.now)
+        (context_of here.now) (type_of ty.now.value) (exprs_of args.now) }
+    ensures { IfOk result (λ _. gives.CreatedGathers A.span_from here.now at
+        (type_of ty.now.value) (exprs_of args.now) (gathered out.old) (gathered out.new)) }
+{
+    creation_words(alloc, here, path, at, ty, args, out)
 }

@@ -54,7 +54,7 @@ fn declared_local<'a, A>(
 }
 
 /// Brings a local into scope, in whose initializer the place is then (JLS 6.3).
-pub(crate) fn declare<'a, A>(
+pub fn declare<'a, A>(
     here: &mut Here<'a>,
     number: u32,
     is_final: bool,
@@ -72,7 +72,7 @@ pub(crate) fn declare<'a, A>(
 }
 
 /// Behind a local's initializer.
-pub(crate) fn leave_own(here: &mut Here<'_>)
+pub fn leave_own(here: &mut Here<'_>)
     requires known { IsKnown here.old }
     ensures { Goes here.old here.new (pure.without_own (context_of here.old)) }
 {

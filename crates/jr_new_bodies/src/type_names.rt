@@ -108,3 +108,22 @@ pub fn written_type<A: Mark>(
         }
     }
 }
+
+/// The same of a type in a box.
+pub(crate) fn boxed_type<A: Mark>(
+    alloc: Global,
+    here: &Here<'_>,
+    base: u32,
+    of: &Box<TypeRef<A>>,
+    out: &mut Output,
+) -> Result<(), AllocError>
+    requires known { IsKnown here.now }
+    requires fits { FitsType (λ m b. (A.span_from m b).from) A.fits_at base
+        (type_of of.now.value) }
+    requires bound { TypeIsBound (λ m b. (A.span_from m b).from) (rows_of here.now)
+        (context_of here.now) base (type_of of.now.value) }
+    ensures { IfOk result (λ _. gives.TypeGathers A.span_from here.now base
+        (type_of of.now.value) (gathered out.old) (gathered out.new)) }
+{
+    written_type(alloc, here, base, of, out)
+}

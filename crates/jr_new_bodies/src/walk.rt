@@ -18,10 +18,10 @@ use crate::called::call_choice;
 use crate::chosen::dotted_choice;
 use crate::here::{Here, Role, below, next};
 use crate::levels::{SIGN_LEVEL, UNSIGNED_LEVEL, asked_by, rank};
-use crate::node_words::{call_word, called_on_super, creation_words, on_super, simple};
+use crate::node_words::{boxed_creation_words, call_word, called_on_super, on_super, simple};
 use crate::outputs::{Output, put_end, put_front, put_part, start_of};
 use crate::spots::part_at;
-use crate::type_names::written_type;
+use crate::type_names::{boxed_type, written_type};
 use jr_ast::{BinOp, Expr, ExprKind, Ident, Path, TypeRef};
 use jr_new_words::Choice;
 use jr_text::{Mark, Span};
@@ -222,20 +222,20 @@ fn cast<A: Mark>(
     here: &Here<'_>,
     path: &Path,
     at: u32,
-    ty: &TypeRef<A>,
+    ty: &Box<TypeRef<A>>,
     part: &Expr<A>,
     out: &mut Output,
 ) -> Result<(), AllocError>
     requires known { IsKnown here.now }
-    requires fits { FitsType (λ m b. (A.span_from m b).from) A.fits_at at (type_of ty.now) }
+    requires fits { FitsType (λ m b. (A.span_from m b).from) A.fits_at at (type_of ty.now.value) }
     requires bound { TypeIsBound (λ m b. (A.span_from m b).from) (rows_of here.now)
-        (context_of here.now) at (type_of ty.now) }
+        (context_of here.now) at (type_of ty.now.value) }
     requires ready { ExpReady A.span_from A.fits_at here.now value
         (path.now.steps.items ++ 1 ∷ []) at (expr_of part.now) }
-    ensures { IfOk result (λ _. gives.CastGathers A.span_from here.now at (type_of ty.now)
+    ensures { IfOk result (λ _. gives.CastGathers A.span_from here.now at (type_of ty.now.value)
         (expr_of part.now) (gathered out.old) (gathered out.new)) }
 {
-    written_type(alloc, here, at, ty, out)?;
+    boxed_type(alloc, here, at, ty, out)?;
     operand(alloc, here, UNSIGNED_LEVEL, path, 1, at, part, out)
 }
 
@@ -412,24 +412,24 @@ fn create<A: Mark>(
     here: &Here<'_>,
     path: &Path,
     at: u32,
-    ty: &TypeRef<A>,
+    ty: &Box<TypeRef<A>>,
     args: &[Expr<A>],
     out: &mut Output,
 ) -> Result<(), AllocError>
     requires known { IsKnown here.now }
-    requires fits { FitsType (λ m b. (A.span_from m b).from) A.fits_at at (type_of ty.now) }
+    requires fits { FitsType (λ m b. (A.span_from m b).from) A.fits_at at (type_of ty.now.value) }
     requires ready { RowReady A.span_from A.fits_at here.now path.now.steps.items 1 at
         (exprs_of args.now) }
     requires created { TypesCreation here.now (context_of here.now) path.now.steps.items
-        (type_of ty.now) (exprs_of args.now) }
+        (type_of ty.now.value) (exprs_of args.now) }
     requires type_bound { TypeIsBound (λ m b. (A.span_from m b).from) (rows_of here.now)
-        (context_of here.now) at (type_of ty.now) }
+        (context_of here.now) at (type_of ty.now.value) }
     requires bound { pure.CreationIsBound (λ m b. (A.span_from m b).from) (rows_of here.now)
-        (context_of here.now) (type_of ty.now) (exprs_of args.now) }
-    ensures { IfOk result (λ _. gives.CreateGathers A.span_from here.now at (type_of ty.now)
+        (context_of here.now) (type_of ty.now.value) (exprs_of args.now) }
+    ensures { IfOk result (λ _. gives.CreateGathers A.span_from here.now at (type_of ty.now.value)
         (exprs_of args.now) (gathered out.old) (gathered out.new)) }
 {
-    creation_words(alloc, here, path, at, ty, args, out)?;
+    boxed_creation_words(alloc, here, path, at, ty, args, out)?;
     exprs(alloc, here, path, 1, at, args, out)
 }
 

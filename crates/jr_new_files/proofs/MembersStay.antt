@@ -14,7 +14,6 @@ use Rattle.jr_table.specs.Prelude.{top_key}
 use Rattle.jr_table.specs.Entries.{class_of_member}
 use Rattle.jr_table.specs.Found.{Found, not_accessible}
 use Rattle.jr_table.specs.Context.{Context, scope_of}
-use Rattle.jr_table.specs.Binding.{TypeRefers}
 use Rattle.jr_table.specs.HeadRules.{plain as no_locals, with_parameters, is_static_member, ParamsRefer, MaybeTypeRefers, ParentRefers, HeadRefers, DeclarationBreaks}
 use Rattle.jr_table.specs.DeclaredItems.{class_key}
 use Rattle.jr_table.specs.ExpressionRules.{ExpBreaks}
@@ -22,7 +21,7 @@ use Rattle.jr_table.specs.StatementRules.{StmtBreaks, ListBreaks}
 use Rattle.jr_table.specs.Errors.{Part, class_part, member_part, Breaks, InMember}
 use Rattle.jr_mentions.specs.Apart.{IsCleanMember}
 use Rattle.jr_mentions.specs.Avoids.{AvoidsMember, AvoidsArgs, AvoidsPart}
-use Rattle.jr_program_laws.specs.FoundTypes.{TypeIsFound, MaybeTypeIsFound, ParamTypesAreFound, MaybeParentIsFound, ParentIsFound, DeclaresFound}
+use Rattle.jr_program_laws.specs.FoundTypes.{MaybeTypeIsFound, ParamTypesAreFound, MaybeParentIsFound, ParentIsFound, DeclaresFound}
 use Rattle.jr_rewrite.specs.Respellings.{stays}
 use Rattle.jr_rewrite.specs.Rewritten.{plain, within, joined}
 use Rattle.jr_rewrite.specs.Rewrites.{declared_by, with_losses, RewritesType, RewritesParams, RewritesResult, RewritesSuper, RewritesMember, RewritesParent, RewritesHead}
@@ -33,24 +32,11 @@ use Rattle.jr_new_files.specs.Spared.{IsKeyed}
 use Rattle.jr_new_files.proofs.ImagesStay.{within_plain, within_parameters, scope_same}
 use Rattle.jr_new_files.proofs.Unmoved.{GivesNothing, both_none}
 use Rattle.jr_new_files.proofs.Passing.{Known}
-use Rattle.jr_new_files.proofs.NothingBroken.{TypeMeans}
+use Rattle.jr_new_files.proofs.NothingBroken.{TypeMeans, found_means}
 use Rattle.jr_new_files.proofs.WordsOfTypes.{ParentMeans, type_stays, parent_stays}
 use Rattle.jr_new_files.proofs.WordsOfCalls.{super_ctor_stays}
 use Rattle.jr_new_files.proofs.TreesStay.{C, row_stays}
 use Rattle.jr_new_files.proofs.BodiesStay.{declared_stays, maybe_stays, stmts_stay}
-
--- ---- declared types
-
--- a type whose names are found, and accessible
-module _ {A : Type 0} (begins : A → ℕ → ℕ) (rows : List Row) (c : Context) (base : ℕ) where
-  pub found_means : (t : tree.TypeName A) → TypeIsFound rows (scope_of c) t → ((at : ℕ) (d : _) → TypeRefers begins rows c base t at (not_accessible d) → ⊥) → TypeMeans rows (scope_of c) t
-  found_means (tree.int m) found seen = tt
-  found_means (tree.boolean m) found seen = tt
-  found_means (tree.named m None w) (q, inl h) seen = (q, h)
-  found_means (tree.named m None w) (q, inr h) seen = absurd (seen _ (class_decl q) (refl, h))
-  found_means (tree.named m (Some v) w) (o, q, inl h, inl i) seen = (o, q, h, i)
-  found_means (tree.named m (Some v) w) (o, q, inl h, inr i) seen = absurd (seen _ (class_decl q) (inr (refl, inl (o, h, i))))
-  found_means (tree.named m (Some v) w) (o, q, inr h, i) seen = absurd (seen _ (class_decl o) (inl (refl, h)))
 
 module _ {A : Type 0} (tells : A → ℕ → Span) (rows : List Row) (g : Renaming) (names : List (List ℕ)) (k : MemberKey) (known : Known A rows g names k) (super_at : MemberKey → ℕ) where
   abbrev begins : A → ℕ → ℕ

@@ -1,20 +1,24 @@
 -- Where no rule is broken, each reference finds one declaration, and each written type names its
 -- classes.
-use Rattle.std.proofs.Common.{◌≡◌, ℕ, List, Some, None, Bool, true, false, refl, subst, inl, inr}
+use Rattle.std.proofs.Common.{◌≡◌, ℕ, List, [], ◌∷◌, Option, Some, None, Bool, true, false, refl, sym, subst, ◌∙◌, inl, inr}
+use Rattle.std.specs.Prelude.{◌⊎◌}
 use Rattle.jr_ast.specs.Tree as tree
 use Rattle.jr_table.specs.declared.rules.Rule.{Rule}
 use Rattle.jr_table.specs.declared.rules.Rule.TheVariants as rule
 use Rattle.jr_table.specs.Rows.{Row}
-use Rattle.jr_table.specs.Keys.{ClassKey}
+use Rattle.jr_table.specs.Keys.{ClassKey, Ty}
 use Rattle.jr_table.specs.Decls.{Decl, class_decl}
 use Rattle.jr_table.specs.Found.{Found, one, nothing, many, not_accessible, from_static}
 use Rattle.jr_table.specs.Scope.{Scope}
 use Rattle.jr_table.specs.Lookup.{FindsTypeNamed, FindsTypeOf, find_type_named, find_type_of}
 use Rattle.jr_table.specs.LookupLaws.{Decided, KeysAreFound}
+use Rattle.jr_table.specs.BindingLaws.{IsBound}
+use Rattle.jr_table.specs.Meanings.{type_of}
 use Rattle.jr_table.specs.Context.{Context, scope_of}
-use Rattle.jr_table.specs.Binding.{Role, Sought, variable, type, method, Refers, TypeRefers, word_at}
+use Rattle.jr_table.specs.Binding.{Role, Sought, variable, type, method, HaveTypes, Refers, TypeRefers, word_at}
 use Rattle.jr_table.specs.Somewhere.{Somewhere, InRow}
 use Rattle.jr_table.specs.ExpressionRules.{ExpBreaks, NamesObject}
+use Rattle.jr_program_laws.specs.FoundTypes.{TypeIsFound}
 use Rattle.jr_new_files.proofs.Namesakes.{found_type, found_inner, many_named, static_named, many_inner, static_inner}
 
 abbrev pub IsOne : Found → Type 0
@@ -101,3 +105,43 @@ module _ {A : Type 0} (begins : A → ℕ → ℕ) (rows : List Row) (keys : Key
   -- the same in an expression that refers to it
   pub type_within : (t : tree.TypeName A) → ((at : ℕ) (f : Found) → TypeRefers begins rows c base t at f → IsOne f) → TypeMeans rows (scope_of c) t
   type_within t bound = type_means t (λ at h. let o = bound at nothing h in absurd cc) (λ at d h. let o = bound at (not_accessible d) h in absurd cc)
+
+-- a type whose names are found, and accessible
+module _ {A : Type 0} (begins : A → ℕ → ℕ) (rows : List Row) (c : Context) (base : ℕ) where
+  pub found_means : (t : tree.TypeName A) → TypeIsFound rows (scope_of c) t → ((at : ℕ) (d : _) → TypeRefers begins rows c base t at (not_accessible d) → ⊥) → TypeMeans rows (scope_of c) t
+  found_means (tree.int m) found seen = tt
+  found_means (tree.boolean m) found seen = tt
+  found_means (tree.named m None w) (q, inl h) seen = (q, h)
+  found_means (tree.named m None w) (q, inr h) seen = absurd (seen _ (class_decl q) (refl, h))
+  found_means (tree.named m (Some v) w) (o, q, inl h, inl i) seen = (o, q, h, i)
+  found_means (tree.named m (Some v) w) (o, q, inl h, inr i) seen = absurd (seen _ (class_decl q) (inr (refl, inl (o, h, i))))
+  found_means (tree.named m (Some v) w) (o, q, inr h, i) seen = absurd (seen _ (class_decl o) (inl (refl, h)))
+
+-- ---- arguments
+
+-- arguments have types, or have none
+module _ {A : Type 0} (rows : List Row) (c : Context) where
+  abbrev pub AreTyped : tree.Exps A → Type 0
+  AreTyped es = ((ts : List Ty) × HaveTypes rows c es ts) ⊎ ((ts : List Ty) → HaveTypes rows c es ts → ⊥)
+
+  module _ (bound : IsBound A rows c) where
+    untyped_rest : (e : tree.Exp A) (es : tree.Exps A) → ((us : List Ty) → HaveTypes rows c es us → ⊥) → (ts : List Ty) → HaveTypes rows c (tree.more e es) ts → ⊥
+    unfolding HaveTypes
+    untyped_rest e es never [] h = absurd h
+    untyped_rest e es never (u ∷ us) h = never us h.1
+
+    untyped_first : (e : tree.Exp A) (es : tree.Exps A) → type_of rows c e ≡ None → (ts : List Ty) → HaveTypes rows c (tree.more e es) ts → ⊥
+    unfolding HaveTypes
+    untyped_first e es is [] h = absurd h
+    untyped_first e es is (u ∷ us) h = let p : None ≡ Some u = sym is ∙ (bound.types e u).1 h.0 in absurd cc
+
+    more_typed : (e : tree.Exp A) (es : tree.Exps A) (o : Option Ty) → type_of rows c e ≡ o → AreTyped es → AreTyped (tree.more e es)
+    unfolding HaveTypes
+    more_typed e es (Some t) is (inl (ts, have)) = inl (t ∷ ts, ((bound.types e t).0 is, have))
+    more_typed e es (Some t) is (inr never) = inr (untyped_rest e es never)
+    more_typed e es None is rest = inr (untyped_first e es is)
+
+    pub args_typed : (args : tree.Exps A) → AreTyped args
+    unfolding HaveTypes
+    args_typed tree.end = inl ([], refl)
+    args_typed (tree.more e es) = more_typed e es (type_of rows c e) refl (args_typed es)

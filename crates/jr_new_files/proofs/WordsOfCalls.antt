@@ -1,6 +1,5 @@
 -- Names of methods stay, and constructors are found again.
-use Rattle.std.proofs.Common.{◌≡◌, ℕ, List, [], ◌∷◌, Option, Some, None, true, false, refl, sym, ap, subst, ◌∙◌, inl, inr}
-use Rattle.std.specs.Prelude.{◌⊎◌}
+use Rattle.std.proofs.Common.{◌≡◌, ℕ, List, [], Option, Some, None, true, false, refl, sym, ap, subst, ◌∙◌, inl, inr}
 use Rattle.jr_ast.specs.Tree as tree
 use Rattle.jr_table.specs.declared.rules.Rule.TheVariants as rule
 use Rattle.jr_table.specs.Keys.{ClassKey, MethodKey, CtorKey, Ty}
@@ -11,7 +10,7 @@ use Rattle.jr_table.specs.Found.{Found, one, nothing, many, not_accessible, from
 use Rattle.jr_table.specs.Lookup.{FindsMethodNamed, FindsMethodOf, FindsCtorOf, find_ctor_of}
 use Rattle.jr_table.specs.Context.{Context, scope_of, IsSuperclass}
 use Rattle.jr_table.specs.Binding.{Role, method, HaveTypes, TargetFinds, CallFinds, SuperCallFinds, CreationFinds, SuperCtorFinds, word_at}
-use Rattle.jr_table.specs.Meanings.{types_of, type_of, target_found, call_found, ctor_found, created_class, own_superclass}
+use Rattle.jr_table.specs.Meanings.{types_of, target_found, call_found, ctor_found, created_class, own_superclass}
 use Rattle.jr_table.proofs.Typing.{own_super_iff}
 use Rattle.jr_spell.specs.declared.references.RefForm.TheVariants as ref
 use Rattle.jr_spell.specs.declared.spellings.Form.TheVariants.{Asked}
@@ -28,7 +27,7 @@ use Rattle.jr_new_files.proofs.Unmoved.{stays_so}
 use Rattle.jr_new_files.proofs.Namesakes.{found_method, found_call, found_ctor, method_row, static_ctor}
 use Rattle.jr_new_files.proofs.Passing.{Known, call_goes, call_clean, method_goes, method_clean, ctor_goes, method_keeps, superclass_goes, word_back}
 use Rattle.jr_new_files.proofs.AskedBinds.{call_taken, method_taken, static_method_taken, super_method_taken, ctor_taken, super_ctor_taken}
-use Rattle.jr_new_files.proofs.NothingBroken.{the_one, one_found, object_there, SoundItself}
+use Rattle.jr_new_files.proofs.NothingBroken.{AreTyped, args_typed, the_one, one_found, object_there, SoundItself}
 use Rattle.jr_new_files.proofs.WordsOfTypes.{moved}
 use Rattle.jr_new_files.proofs.WordsOfNames.{place, image_class, words_stand, one_nothing}
 
@@ -178,31 +177,6 @@ module _ {A : Type 0} (begins : A → ℕ → ℕ) (rows : List Row) (g : Renami
       by d (inl (o, is, inr (lacks, e))) = absurd (one_nothing d e)
       by d (inr (lacks, e)) = absurd (one_nothing d e)
 
-  -- arguments have types, or have none
-  abbrev AreTyped : tree.Exps A → Type 0
-  AreTyped es = ((ts : List Ty) × HaveTypes rows c es ts) ⊎ ((ts : List Ty) → HaveTypes rows c es ts → ⊥)
-
-  untyped_rest : (e : tree.Exp A) (es : tree.Exps A) → ((us : List Ty) → HaveTypes rows c es us → ⊥) → (ts : List Ty) → HaveTypes rows c (tree.more e es) ts → ⊥
-  unfolding HaveTypes
-  untyped_rest e es never [] h = absurd h
-  untyped_rest e es never (u ∷ us) h = never us h.1
-
-  untyped_first : (e : tree.Exp A) (es : tree.Exps A) → type_of rows c e ≡ None → (ts : List Ty) → HaveTypes rows c (tree.more e es) ts → ⊥
-  unfolding HaveTypes
-  untyped_first e es is [] h = absurd h
-  untyped_first e es is (u ∷ us) h = let p : None ≡ Some u = sym is ∙ ((known.bound c).types e u).1 h.0 in absurd cc
-
-  more_typed : (e : tree.Exp A) (es : tree.Exps A) (o : Option Ty) → type_of rows c e ≡ o → AreTyped es → AreTyped (tree.more e es)
-  unfolding HaveTypes
-  more_typed e es (Some t) is (inl (ts, have)) = inl (t ∷ ts, (((known.bound c).types e t).0 is, have))
-  more_typed e es (Some t) is (inr never) = inr (untyped_rest e es never)
-  more_typed e es None is rest = inr (untyped_first e es is)
-
-  args_typed : (args : tree.Exps A) → AreTyped args
-  unfolding HaveTypes
-  args_typed tree.end = inl ([], refl)
-  args_typed (tree.more e es) = more_typed e es (type_of rows c e) refl (args_typed es)
-
   -- a written `super(..)`, which finds something that is accessible
   module _ (at : ℕ) (args : tree.Exps A) (some : SuperCtorFinds rows c args nothing → ⊥) (single : (d e : Decl) → SuperCtorFinds rows c args (many d e) → ⊥) (seen : (d : Decl) → SuperCtorFinds rows c args (not_accessible d) → ⊥) where
     super_ctor_spells : (o : ClassKey) (ts : List Ty) → IsSuperclass rows (scope_of c).class o → HaveTypes rows c args ts → (f : Found) → FindsCtorOf rows (scope_of c) o ts f → SuperCtorSpells begins rows g at c args stays
@@ -222,9 +196,9 @@ module _ {A : Type 0} (begins : A → ℕ → ℕ) (rows : List Row) (g : Renami
     super_ctor_spells o ts is have (from_static d) h = absurd (static_ctor rows (scope_of c) o ts d h)
 
     pub super_ctor_stays : SuperCtorSpells begins rows g at c args stays
-    super_ctor_stays = by (own_superclass rows c) refl (args_typed args)
+    super_ctor_stays = by (own_superclass rows c) refl (args_typed rows c (known.bound c) args)
       where
-        by : (o : Option ClassKey) → own_superclass rows c ≡ o → AreTyped args → SuperCtorSpells begins rows g at c args stays
+        by : (o : Option ClassKey) → own_superclass rows c ≡ o → AreTyped rows c args → SuperCtorSpells begins rows g at c args stays
         by (Some o) is (inl (ts, have)) = super_ctor_spells o ts ((own_super_iff rows known.are known.keys c o).0 is) have (find_ctor_of rows (scope_of c) o ts) ((known.keys.ctor_of (scope_of c) o ts (find_ctor_of rows (scope_of c) o ts)).0 refl)
         by (Some o) is (inr never) = absurd (some (inl (o, (own_super_iff rows known.are known.keys c o).0 is, inr (never, refl))))
         by None is typed = absurd (some (inr ((λ o h. let p : None ≡ Some o = sym is ∙ (own_super_iff rows known.are known.keys c o).1 h in absurd cc), refl)))

@@ -55,7 +55,7 @@ pub(crate) fn plain_here<'a>(
 }
 
 /// The types of a member's parameters.
-fn param_types(key: &MemberKey) -> &[Ty]
+pub fn param_types(key: &MemberKey) -> &[Ty]
     ensures { map ty_of result.now ≡ types_of (member_key_of key.now) }
 {
     match key {
@@ -81,7 +81,7 @@ fn parameter<'a>(number: u32, of: &'a Param<Span>, ty: &'a Ty) -> Held<'a>
 }
 
 /// Brings the parameters into scope, each with its type.
-fn push_params<'a>(
+pub fn push_params<'a>(
     scopes: &mut Scopes<'a>,
     types: &'a [Ty],
     params: &'a [Param<Span>],

@@ -9,7 +9,7 @@
 //! around it. A written `super(..)` has no word that could change: its constructor is asked, and
 //! only where it is lost its word `super` is looked for among the file's tokens (`supers`). What
 //! the walks below rest on (`specs/Ready`) comes from `jr_bind: IsProgram` alone; `part_laws` says
-//! so.
+//! so ([`written_members_are_ready`]).
 //!
 //! `files`: one loop over the written members, each of which adds to its file what `part` gives,
 //! unless the rename leaves it as it is (`unaffected`: the names in which the two programs differ;
@@ -41,6 +41,10 @@ mod supers;
 mod unaffected;
 mod words;
 
+pub use beginnings::{param_types, push_params};
 pub use file_laws::files_are_rewritten;
+pub use losses::least_loss;
+pub use part_laws::{written_members_are_ready, written_members_are_sound};
 pub use programs::{Rewriting, rewrite};
 pub use spared_laws::spared_give_nothing;
+pub use words::is_static;

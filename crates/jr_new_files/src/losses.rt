@@ -20,7 +20,7 @@ fn place_of(losses: &[Lost], number: usize) -> u32
 }
 
 /// The number of the first that begins where none begins before.
-fn least(losses: &[Lost]) -> Option<usize>
+pub fn least_loss(losses: &[Lost]) -> Option<usize>
     ensures some { IfSome result (HasLeast (losses_in losses.now)) }
     ensures none { IfNone result (losses.now ≡ []) }
 {
@@ -42,7 +42,7 @@ fn least_of(outputs: &[Output], file: u32) -> Option<usize>
     ensures some { IfSome result (λ n. HasLeastThere (effects_of outputs.now) file n) }
     ensures none { IfNone result (LosesNothingThere (effects_of outputs.now) file) }
 {
-    least(outputs[file as usize].losses.as_slice())
+    least_loss(outputs[file as usize].losses.as_slice())
 }
 
 /// The first of so many files that loses something, with the number of its first loss.

@@ -26,7 +26,7 @@ fn is_static_word(word: ModWord) -> bool
 }
 
 /// Whether a member is static (JLS 8.3.1.1, 8.4.3.2).
-pub(crate) fn is_static<A: Mark>(modifiers: &[Modifier<A>]) -> bool
+pub fn is_static<A: Mark>(modifiers: &[Modifier<A>]) -> bool
     ensures { result ≡ is_static_member (λ m b. (A.span_from m b).from)
         (map modifier_of modifiers.now) }
 {

@@ -31,7 +31,7 @@ use Rattle.jr_spell.specs.References.{Reference, Operand}
 use Rattle.jr_rewrite.specs.Respellings.{Choice, loses}
 use Rattle.jr_images.specs.Words.{InFront, named_class, FindsBehind}
 use Rattle.jr_images.specs.Spelling.{operand_of, on_type, dotted}
-use Rattle.jr_new_words.specs.Mappings.{Mapping, name_to, decl_to, rows_to, scope_to}
+use Rattle.jr_new_words.specs.Mappings.{Mapping, class_to, name_to, decl_to, rows_to, scope_to}
 use Rattle.jr_new_words.specs.FrontView.{in_front_of}
 use Rattle.jr_new_words.specs.declared.ways.Way as raw
 use Rattle.jr_new_words.specs.declared.ways.Way.TheVariants as variant
@@ -295,6 +295,11 @@ module _ (rows : List Row) (g : Mapping) (c : Context) where
   SpellsTo i w ts at old d h = SpellsAt (rows_to g rows) (scope_to g c)
       (asked (reference_by w (name_in i (name_to g d old)) ts) i (name_in i (name_to g d old)))
       at old d (Finds (rows_to g rows) (scope_to g c) w (name_in i (name_to g d old)) ts) h
+
+  -- of a class as a type that comes with a refactoring, which is asked by its name
+  abbrev pub MakesType : (at : ℕ) → ClassKey → Choice → Type 0
+  MakesType at k h =
+      SpellsTo (class_decl (class_to g k)) type_named [] at k.name (class_decl k) h
 
   -- of one that is gone: it is lost, with what its name finds
   abbrev pub Gone : Way → List Ty → (at : ℕ) → (old : List ℕ) → Decl → Choice → Type 0

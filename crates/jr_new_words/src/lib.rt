@@ -56,5 +56,5 @@ pub use mappings::{KeyMapping, class_type_to, type_to, types_to};
 pub use numbers::{GoneLocal, LocalMapping, MadeLocal, Renumbering};
 pub use programs::{Programs, Tables, tables_of};
 pub use scopes::Scopes;
-pub use types::{qualified_type, simple_type};
+pub use types::{made_type, qualified_type, simple_type};
 pub use variables::variable;

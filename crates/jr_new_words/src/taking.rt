@@ -85,7 +85,7 @@ fn taken_or_lost(
 }
 
 /// What is taken for the image, or else the loss.
-fn taken_to(
+pub(crate) fn taken_to(
     alloc: Global,
     scopes: &Scopes<'_>,
     at: u32,

@@ -8,17 +8,18 @@ ghost use Rattle.jr_table.specs.Context.{scope_of};
 ghost use Rattle.jr_new_words.specs.Scopes.{IsKept, rows_of, mapping_of, context_of};
 ghost use Rattle.jr_new_words.specs.ChoiceView.{choice_of};
 ghost use Rattle.jr_new_words.specs.Chosen as chosen;
+ghost use Rattle.jr_new_words.specs.Ways.{MakesType};
 
 use crate::asking::no_types;
 use crate::choices::Choice;
 use crate::finding::class_found;
 use crate::mappings::class_to;
 use crate::scopes::Scopes;
-use crate::taking::chosen;
+use crate::taking::{chosen, forget_decl, taken_to};
 use crate::ways::Way;
 use jr_ast::Name;
 use jr_lookup::type_named;
-use jr_table::{ClassKey, lookups_are_exact};
+use jr_table::{ClassKey, Decl, lookups_are_exact};
 use std::alloc::{AllocError, Global};
 
 /// The choice for a class as a type, by its name alone.
@@ -43,6 +44,38 @@ pub fn simple_type(
         &Way::TypeNamed,
         &none,
     )
+}
+
+/// The choice for a class as a type that comes with a refactoring, asked by its name alone. `at` is
+/// the place that is told where it is lost. The only fault is want of memory.
+pub fn made_type(
+    alloc: Global,
+    scopes: &Scopes<'_>,
+    at: u32,
+    class: &ClassKey,
+) -> Result<Choice, AllocError>
+    requires { IsKept scopes.now }
+    ensures { IfOk result (λ h. MakesType (rows_of scopes.now) (mapping_of scopes.now)
+        (context_of scopes.now) at (class_key_of class.now) (choice_of h)) }
+{
+    let none = no_types(alloc)?;
+    let key = class.copy()?;
+    let to = class_to(&scopes.programs.keys, class)?;
+    let declaration = Decl::Class(key);
+    let image = Decl::Class(to);
+    let choice = taken_to(
+        alloc,
+        scopes,
+        at,
+        &class.name,
+        &Way::TypeNamed,
+        &none,
+        &declaration,
+        &image,
+    );
+    forget_decl(declaration);
+    forget_decl(image);
+    choice
 }
 
 /// The choice for a member class of a class that is found by its name.

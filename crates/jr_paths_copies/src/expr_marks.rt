@@ -6,7 +6,7 @@ ghost use Rattle.jr_ast.specs.View.{target_of, expr_of, exprs_of, args_of};
 
 use crate::made::{Made, push_made};
 use crate::made_exprs;
-use crate::marks::{mark_by, ty, word};
+use crate::marks::{boxed_ty, mark_by, ty, word};
 use jr_ast::{Expr, ExprKind};
 use std::alloc::Global;
 
@@ -52,13 +52,18 @@ pub(crate) fn expr<B: Drop, A, F: Fn(&A) -> B>(
             made_exprs::super_call(alloc, mark, word(alloc, name, f), exprs(alloc, args, f))
         }
         ExprKind::New(created, args) => {
-            made_exprs::create(alloc, mark, ty(alloc, created, f), exprs(alloc, args, f))
+            made_exprs::create(
+                alloc,
+                mark,
+                boxed_ty(alloc, created, f),
+                exprs(alloc, args, f),
+            )
         }
         ExprKind::Paren(part) => made_exprs::paren(alloc, mark, expr(alloc, part, f)),
         ExprKind::Cast(to, part) => made_exprs::cast(
             alloc,
             mark,
-            ty(alloc, to, f),
+            boxed_ty(alloc, to, f),
             expr(alloc, part, f),
         ),
         ExprKind::Unary(op, part) => made_exprs::unary(alloc, mark, *op, expr(alloc, part, f)),

@@ -109,12 +109,12 @@ pub(crate) fn super_call<B: Drop>(
 pub(crate) fn create<B: Drop>(
     alloc: Global,
     mark: B,
-    ty: Made<TypeRef<B>>,
+    ty: Made<Box<TypeRef<B>>>,
     args: Made<Vec<Expr<B>>>,
 ) -> Made<Box<Expr<B>>>
     ensures { IfOk result (λ x. IsOkAnd ty (λ ty'.
         IsOkAnd args (λ args'. expr_of x.value
-        ≡ tree.create mark (type_of ty') (exprs_of args'.items)))) }
+        ≡ tree.create mark (type_of ty'.value) (exprs_of args'.items)))) }
 {
     let (ty, args) = both(ty, args)?;
     in_box(alloc, Expr::create(mark, ty, args))
@@ -132,11 +132,11 @@ pub(crate) fn paren<B: Drop>(alloc: Global, mark: B, of: Made<Box<Expr<B>>>) -> 
 pub(crate) fn cast<B: Drop>(
     alloc: Global,
     mark: B,
-    ty: Made<TypeRef<B>>,
+    ty: Made<Box<TypeRef<B>>>,
     of: Made<Box<Expr<B>>>,
 ) -> Made<Box<Expr<B>>>
-    ensures { IfOk result (λ x. IsOkAnd ty (λ ty'.
-        IsOkAnd of (λ of'. expr_of x.value ≡ tree.cast mark (type_of ty') (expr_of of'.value)))) }
+    ensures { IfOk result (λ x. IsOkAnd ty (λ ty'. IsOkAnd of (λ of'.
+        expr_of x.value ≡ tree.cast mark (type_of ty'.value) (expr_of of'.value)))) }
 {
     let (ty, of) = both(ty, of)?;
     in_box(alloc, Expr::cast(mark, ty, of))

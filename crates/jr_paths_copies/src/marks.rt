@@ -1,5 +1,5 @@
 //! A copy of a tree with other marks: names, types and parameters.
-ghost use Rattle.std.specs.Prelude.{IfOk, option_map, map};
+ghost use Rattle.std.specs.Prelude.{◌≡◌, IfOk, option_map, map};
 ghost use Rattle.std.specs.Fn.{FnReturnsAt};
 ghost use Rattle.jr_paths_copies.specs.Same as same;
 ghost use Rattle.jr_ast.specs.View.{word_of, modifier_of, type_of, param_of};
@@ -64,6 +64,27 @@ pub(crate) fn ty<B: Drop, A, F: Fn(&A) -> B>(
             }
         }
     }
+}
+
+/// A type in a box, at this type alone.
+fn in_box<B: Drop>(alloc: Global, ty: TypeRef<B>) -> Result<Box<TypeRef<B>>, AllocError>
+    ensures { IfOk result (λ t. t.value ≡ ty) }
+{
+    Ok(Box::new(alloc, ty)?)
+}
+
+/// The same of a type in a box.
+pub(crate) fn boxed_ty<B: Drop, A, F: Fn(&A) -> B>(
+    alloc: Global,
+    of: &Box<TypeRef<A>>,
+    f: &F,
+) -> Result<Box<TypeRef<B>>, AllocError>
+    requires { F.IsAlwaysCallable f.now }
+    ensures { IfOk result (λ t. same.SameType (FnReturnsAt F.Fn f.now)
+        (type_of of.now.value) (type_of t.value)) }
+{
+    let made = ty(alloc, of, f)?;
+    in_box(alloc, made)
 }
 
 pub(crate) fn param<B: Drop, A, F: Fn(&A) -> B>(

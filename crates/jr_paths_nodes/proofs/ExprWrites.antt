@@ -111,9 +111,9 @@ module _ {A : Type 0} where
   unfolding pure.exp_children
   super_get m i args number = behind (pure.word (word_of i)) args.items number refl ∙ sym (ap (λ e. exp_in e number) (expr_kind-SuperCall A m i args))
 
-  pub new_get : (m : A) (t : TypeRef A) (args : Vec (Expr A) Global) (number : ℕ) → get_from 1 (map expr_of args.items) number ≡ exp_in (expr_kind m (expr.New t args)) number
+  pub new_get : (m : A) (t : Box (TypeRef A) Global) (args : Vec (Expr A) Global) (number : ℕ) → get_from 1 (map expr_of args.items) number ≡ exp_in (expr_kind m (expr.New t args)) number
   unfolding pure.exp_children
-  new_get m t args number = behind (pure.type (type_of t)) args.items number refl ∙ sym (ap (λ e. exp_in e number) (expr_kind-New A m t args))
+  new_get m t args number = behind (pure.type (type_of t.value)) args.items number refl ∙ sym (ap (λ e. exp_in e number) (expr_kind-New A m t args))
 
   pub super_write : (m : A) (i : Ident A) (old new : Vec (Expr A) Global) (number : ℕ) (w : Expr A) → exprs_of new.items ≡ with_exp_from 1 (exprs_of old.items) number (expr_of w)
       → expr_kind m (expr.SuperCall i new) ≡ with_exp (expr_kind m (expr.SuperCall i old)) number (expr_of w)
@@ -124,14 +124,14 @@ module _ {A : Type 0} where
   pub super_same : (m : A) (i : Ident A) (old new : Vec (Expr A) Global) → new.items ≡ old.items → expr_kind m (expr.SuperCall i new) ≡ expr_kind m (expr.SuperCall i old)
   super_same m i old new e = expr_kind-SuperCall A m i new ∙ ap (λ xs. tree.super_call m (word_of i) (exprs_of xs)) e ∙ sym (expr_kind-SuperCall A m i old)
 
-  pub new_write : (m : A) (t : TypeRef A) (old new : Vec (Expr A) Global) (number : ℕ) (w : Expr A) → exprs_of new.items ≡ with_exp_from 1 (exprs_of old.items) number (expr_of w)
+  pub new_write : (m : A) (t : Box (TypeRef A) Global) (old new : Vec (Expr A) Global) (number : ℕ) (w : Expr A) → exprs_of new.items ≡ with_exp_from 1 (exprs_of old.items) number (expr_of w)
       → expr_kind m (expr.New t new) ≡ with_exp (expr_kind m (expr.New t old)) number (expr_of w)
   unfolding with_exp
   new_write m t old new number w e =
-      expr_kind-New A m t new ∙ ap (tree.create m (type_of t)) e ∙ sym (ap (λ k. with_exp k number (expr_of w)) (expr_kind-New A m t old))
+      expr_kind-New A m t new ∙ ap (tree.create m (type_of t.value)) e ∙ sym (ap (λ k. with_exp k number (expr_of w)) (expr_kind-New A m t old))
 
-  pub new_same : (m : A) (t : TypeRef A) (old new : Vec (Expr A) Global) → new.items ≡ old.items → expr_kind m (expr.New t new) ≡ expr_kind m (expr.New t old)
-  new_same m t old new e = expr_kind-New A m t new ∙ ap (λ xs. tree.create m (type_of t) (exprs_of xs)) e ∙ sym (expr_kind-New A m t old)
+  pub new_same : (m : A) (t : Box (TypeRef A) Global) (old new : Vec (Expr A) Global) → new.items ≡ old.items → expr_kind m (expr.New t new) ≡ expr_kind m (expr.New t old)
+  new_same m t old new e = expr_kind-New A m t new ∙ ap (λ xs. tree.create m (type_of t.value) (exprs_of xs)) e ∙ sym (expr_kind-New A m t old)
 
   -- one expression in a box
   pub field_of : (m : A) (b new : Box (Expr A) Global) (i : Ident A) (number : ℕ) → number ≡ 0 → expr_kind m (expr.Field new i) ≡ with_exp (expr_kind m (expr.Field b i)) number (expr_of new.value)
@@ -150,11 +150,11 @@ module _ {A : Type 0} where
   unfolding expr_kind pure.exp_children
   paren_of_get m b number is = sym (ap (exp_in (expr_kind m (expr.Paren b))) is)
 
-  pub cast_of : (m : A) (t : TypeRef A) (b new : Box (Expr A) Global) (number : ℕ) → number ≡ 1 → expr_kind m (expr.Cast t new) ≡ with_exp (expr_kind m (expr.Cast t b)) number (expr_of new.value)
+  pub cast_of : (m : A) (t : Box (TypeRef A) Global) (b new : Box (Expr A) Global) (number : ℕ) → number ≡ 1 → expr_kind m (expr.Cast t new) ≡ with_exp (expr_kind m (expr.Cast t b)) number (expr_of new.value)
   unfolding expr_kind with_exp
   cast_of m t b new number is = sym (ap (λ n. with_exp (expr_kind m (expr.Cast t b)) n (expr_of new.value)) is)
 
-  pub cast_of_get : (m : A) (t : TypeRef A) (b : Box (Expr A) Global) (number : ℕ) → number ≡ 1 → Some (expr_of b.value) ≡ exp_in (expr_kind m (expr.Cast t b)) number
+  pub cast_of_get : (m : A) (t : Box (TypeRef A) Global) (b : Box (Expr A) Global) (number : ℕ) → number ≡ 1 → Some (expr_of b.value) ≡ exp_in (expr_kind m (expr.Cast t b)) number
   unfolding expr_kind pure.exp_children
   cast_of_get m t b number is = sym (ap (exp_in (expr_kind m (expr.Cast t b))) is)
 
@@ -234,7 +234,7 @@ module _ {A : Type 0} where
   paren_none m b zero h = absurd (h refl)
   paren_none m b (suc number) h = refl
 
-  pub cast_none : (m : A) (t : TypeRef A) (b : Box (Expr A) Global) (number : ℕ) → (number ≡ 1 → ⊥) → None ≡ exp_in (expr_kind m (expr.Cast t b)) number
+  pub cast_none : (m : A) (t : Box (TypeRef A) Global) (b : Box (Expr A) Global) (number : ℕ) → (number ≡ 1 → ⊥) → None ≡ exp_in (expr_kind m (expr.Cast t b)) number
   unfolding expr_kind pure.exp_children
   cast_none m t b zero h = refl
   cast_none m t b (suc zero) h = absurd (h refl)

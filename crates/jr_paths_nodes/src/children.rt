@@ -102,6 +102,13 @@ fn only_stmts<'a, A>(number: usize, all: &'a [Stmt<A>]) -> Option<Node<'a, A>>
     Seek::Left(number).stmts(all).end()
 }
 
+/// The node of a type in a box.
+fn type_node<A>(ty: &Box<TypeRef<A>>) -> Node<'_, A>
+    ensures { node_of result ≡ pure.type (type_of ty.now.value) }
+{
+    Node::Type(ty)
+}
+
 #[tactic(auto, unfolding(jr_ast::specs::View::expr_kind, jr_ast::specs::Nodes::exp_children))]
 pub(crate) fn expr_child<'a, A>(expr: &'a Expr<A>, number: usize) -> Option<Node<'a, A>>
     ensures { option_map node_of result ≡ slice_get (pure.exp_children (expr_of expr.now)) number }
@@ -121,9 +128,9 @@ pub(crate) fn expr_child<'a, A>(expr: &'a Expr<A>, number: usize) -> Option<Node
             Some(target) => two_then_exprs(number, Node::Expr(target), Node::Word(name), args),
         },
         ExprKind::SuperCall(name, args) => then_exprs(number, Node::Word(name), args),
-        ExprKind::New(ty, args) => then_exprs(number, Node::Type(ty), args),
+        ExprKind::New(ty, args) => then_exprs(number, type_node(ty), args),
         ExprKind::Paren(of) => one(number, Node::Expr(of)),
-        ExprKind::Cast(ty, of) => two(number, Node::Type(ty), Node::Expr(of)),
+        ExprKind::Cast(ty, of) => two(number, type_node(ty), Node::Expr(of)),
         ExprKind::Unary(_, of) => one(number, Node::Expr(of)),
         ExprKind::Bump(_, of) => one(number, Node::Expr(of)),
         ExprKind::Binary(_, left, right) => two(number, Node::Expr(left), Node::Expr(right)),

@@ -13,7 +13,7 @@ ghost use Rattle.jr_pexpr.specs.Answers.{IsFilled, IsMade};
 
 use crate::frames::{Head, Operand};
 use crate::kinds::is_target;
-use crate::made::{Made, in_box};
+use crate::made::{Made, in_box, type_in_box};
 use crate::pieces::Way;
 use crate::stack::Stack;
 use jr_ast::{BinOp, BumpOp, Expr, TypeRef, UnOp};
@@ -99,14 +99,27 @@ fn compound(alloc: Global, op: BinOp, to: Box<Expr<Span>>, value: Box<Expr<Span>
 }
 
 #[tactic(auto, using(crate::proofs::OwnMarks::mark_is))]
-fn cast(alloc: Global, at: Span, ty: TypeRef<Span>, operand: Box<Expr<Span>>) -> Filled
-    ensures { IsFilled result (plugged (machine.in_cast at (type_of ty)) (exp_in operand)) }
+fn cast(alloc: Global, at: Span, ty: Box<TypeRef<Span>>, operand: Box<Expr<Span>>) -> Filled
+    ensures { IsFilled result (plugged (machine.in_cast at (type_of ty.value)) (exp_in operand)) }
 {
     let mark = Span {
         from: at.from,
         to: operand.mark.to,
     };
     fill(alloc, Expr::cast(mark, ty, operand))
+}
+
+/// A cast to this type.
+fn cast_to(alloc: Global, at: Span, ty: TypeRef<Span>, operand: Box<Expr<Span>>) -> Filled
+    ensures { IsFilled result (plugged (machine.in_cast at (type_of ty)) (exp_in operand)) }
+{
+    match type_in_box(alloc, ty) {
+        Ok(ty) => cast(alloc, at, ty, operand),
+        Err(error) => {
+            drop(operand);
+            Err(error)
+        }
+    }
 }
 
 /// The operand with `e` in its place, where it fits.
@@ -119,7 +132,7 @@ fn plug(alloc: Global, operand: Operand, e: Box<Expr<Span>>) -> Filled
         Operand::Binary(op, left) => binary(alloc, op, left, e),
         Operand::Assign(to) => assign(alloc, to, e),
         Operand::Compound(op, to) => compound(alloc, op, to, e),
-        Operand::Cast(at, ty) => cast(alloc, at, ty, e),
+        Operand::Cast(at, ty) => cast_to(alloc, at, ty, e),
     }
 }
 
@@ -141,6 +154,24 @@ pub(crate) fn reduce(
         }
     }
     Ok(Some((on, e)))
+}
+
+/// A creation of this class.
+fn create(
+    alloc: Global,
+    mark: Span,
+    ty: TypeRef<Span>,
+    args: Vec<Expr<Span>>,
+) -> Made<Box<Expr<Span>>>
+    ensures { IsMade result (tree.create mark (type_of ty) (exprs_of args.items)) }
+{
+    match type_in_box(alloc, ty) {
+        Ok(ty) => in_box(alloc, Expr::create(mark, ty, args)),
+        Err(error) => {
+            drop(args);
+            Err(error)
+        }
+    }
 }
 
 /// The call, or `new`, with its arguments; `at` is its closing parenthesis.
@@ -175,7 +206,7 @@ pub(crate) fn apply(
                 from: start.from,
                 to: at.to,
             };
-            in_box(alloc, Expr::create(mark, ty, args))
+            create(alloc, mark, ty, args)
         }
     }
 }

@@ -13,17 +13,17 @@ mod PartRows
 mod Spotting
 mod Fitting
 mod Numbers
-mod Leading
+pub mod Leading
 mod Counting
 mod Growths
 mod StmtArms
-mod Descents
+pub mod Descents
 mod SpottedPaths
 mod MemberArms
 mod Putting
 mod ExprKinds
 mod WaysDown
 mod Withins
-mod WayPaths
+pub mod WayPaths
 mod Standings
 pub mod Reaching

@@ -17,7 +17,7 @@ use Rattle.jr_piece_sites.specs.Pieces.{Piece, part_of, piece_at, nth_stmt}
 use Rattle.jr_piece_sites.proofs.Descents.{step_down, step_end}
 
 module _ {A : Type 0} (f : tree.Exp A) where
-  abbrev Leads : Piece A → List ℕ → Type 0
+  abbrev pub Leads : Piece A → List ℕ → Type 0
   Leads x q = piece_at x q ≡ Some (piece.exp f)
 
   on : (x c : Piece A) (i : ℕ) (q : List ℕ) → part_of x i ≡ Some c → Leads c q → Leads x (i ∷ q)
@@ -83,13 +83,13 @@ module _ {A : Type 0} (f : tree.Exp A) where
           leads = r.leads;
         }
 
-  record IntoList (b : statement.Stmts A) (d : ListWay f b) (i : ℕ) : Type 0 where
-    at : ℕ
-    rest : List ℕ
-    to : statement.Stmt A
-    path : (j : ℕ) → j ≡ i + at → list_path i d ≡ j ∷ rest
-    is : nth_stmt b at ≡ Some (piece.stmt to)
-    leads : Leads (piece.stmt to) rest
+  pub record IntoList (b : statement.Stmts A) (d : ListWay f b) (i : ℕ) : Type 0 where
+    pub at : ℕ
+    pub rest : List ℕ
+    pub to : statement.Stmt A
+    pub path : (j : ℕ) → j ≡ i + at → list_path i d ≡ j ∷ rest
+    pub is : nth_stmt b at ≡ Some (piece.stmt to)
+    pub leads : Leads (piece.stmt to) rest
 
   mutual
     pub stmt_leads : (s : statement.Stmt A) (d : StmtWay f s) → Leads (piece.stmt s) (stmt_path d)
@@ -111,7 +111,7 @@ module _ {A : Type 0} (f : tree.Exp A) where
         ap (piece_at (piece.stmt (statement.sync m e b))) (r.path (suc r.at) (omega arith))
         ∙ on (piece.stmt (statement.sync m e b)) (piece.stmt r.to) (suc r.at) r.rest r.is r.leads
 
-    list_leads : (b : statement.Stmts A) (d : ListWay f b) (i : ℕ) → IntoList b d i
+    pub list_leads : (b : statement.Stmts A) (d : ListWay f b) (i : ℕ) → IntoList b d i
     list_leads _ (first s ss d) i = record {
       at = 0;
       rest = stmt_path d;

@@ -145,6 +145,16 @@ pub fn site_range<A: Mark, F: Facts>(
 ) -> Result<SiteRange, AllocError>
     requires fits { FitsSites A.span_from A.fits_at base (member_of member.now) }
     requires at { Leads (member_of member.now) path.now.steps.items }
+    ensures exact { (o : Others)
+        → NumbersMember A.span_from base (member_of member.now) o → (x : piece.Piece Spot)
+        → piece.piece_at (piece.member (spots_of A.span_from base (member_of member.now)))
+        path.now.steps.items ≡ Some x
+        → IfOk result (λ r. (r.from ≡ pure.before (known_of (known A.span_from table.now
+        (F.key facts.now) (F.decls facts.now) (F.types facts.now) never_null.now base
+        (member_of member.now)) o) (piece.member (spots_of A.span_from base
+        (member_of member.now))) path.now.steps.items)
+        × (r.to ≡ r.from + piece_size (known_of (known A.span_from table.now (F.key facts.now)
+        (F.decls facts.now) (F.types facts.now) never_null.now base (member_of member.now)) o) x)) }
     ensures of_statement { (o : Others)
         → NumbersMember A.span_from base (member_of member.now) o → (z : statement.Stmt Spot)
         → nodes.stmt_at (nodes.member (spots_of A.span_from base (member_of member.now)))

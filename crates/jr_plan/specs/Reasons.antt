@@ -13,7 +13,9 @@ use Rattle.std.specs.Prelude.{
   map,
   filter,
   not,
+  Option,
   Some,
+  None,
   slice_get,
   sum_by,
 }
@@ -35,7 +37,7 @@ use Rattle.jr_table.specs.Entries.{IsRowOf}
 use Rattle.jr_table.specs.Keyed.{DispatchesTo}
 use Rattle.jr_sync.specs.declared.sites.DepKind.{DepKind}
 use Rattle.jr_names.specs.Refusals.{Refusal, override_changed, lost_binding}
-use Rattle.jr_names.specs.Sites.{SiteAt}
+use Rattle.jr_names.specs.Sites.{SiteAt, DepPair}
 use Rattle.jr_bind.specs.Programs.{Program}
 use Rattle.jr_rewrite.specs.Rewritten.{Rewritten}
 use Rattle.jr_images.specs.Regions.{Images, image_of_member}
@@ -102,6 +104,15 @@ pub record IsFirstLost (all : List Lost) (x : Lost) : Type 0 where
 
 abbrev pub OneFirstLoss : Type 0
 OneFirstLoss = (all : List Lost) (x y : Lost) → IsFirstLost all x → IsFirstLost all y → x ≡ y
+
+-- ---- 18: dependences
+
+-- what a plan tells of what is crossed: the pair, or that there is none
+abbrev pub TellsLost : (Crosses : DepKind → (first second : SiteAt) → Type 0) → Option DepPair
+    → Type 0
+TellsLost Crosses None =
+    (kind : DepKind) (first second : SiteAt) → Crosses kind first second → ⊥
+TellsLost Crosses (Some x) = Crosses x.kind x.first x.second
 
 -- ---- in the order in which they are asked
 

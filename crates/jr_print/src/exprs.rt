@@ -6,7 +6,7 @@ ghost use Rattle.jr_print.specs.ExpressionText.{printed, printed_target, printed
 ghost use Rattle.jr_print.specs.ExpressionText.{printed_more};
 
 use crate::operators::{self, before_bumped, behind_bumped};
-use crate::parts::{dot, number, put, string, ty, word};
+use crate::parts::{boxed_ty, dot, number, put, string, ty, word};
 use crate::starts::before_operand;
 use jr_ast::{Expr, ExprKind};
 use std::alloc::AllocError;
@@ -49,7 +49,7 @@ pub(crate) fn expr<A>(out: &mut String, of: &Expr<A>) -> Result<(), AllocError>
         }
         ExprKind::New(of_type, args) => {
             put(out, "new ")?;
-            ty(out, of_type)?;
+            boxed_ty(out, of_type)?;
             arguments(out, args)
         }
         ExprKind::Paren(part) => {
@@ -59,7 +59,7 @@ pub(crate) fn expr<A>(out: &mut String, of: &Expr<A>) -> Result<(), AllocError>
         }
         ExprKind::Cast(to, part) => {
             put(out, "(")?;
-            ty(out, to)?;
+            boxed_ty(out, to)?;
             put(out, ") ")?;
             expr(out, part)
         }

@@ -57,6 +57,13 @@ pub(crate) fn ty<A>(out: &mut String, of: &TypeRef<A>) -> Result<(), AllocError>
     }
 }
 
+/// The same of a type in a box.
+pub(crate) fn boxed_ty<A>(out: &mut String, of: &Box<TypeRef<A>>) -> Result<(), AllocError>
+    ensures { Adds result out.old out.new (printed_type (type_of of.now.value)) }
+{
+    ty(out, of)
+}
+
 /// The dot behind an expression (JLS 15.11, 15.12): behind a number with a space, since `1.` begins
 /// no token.
 #[tactic(auto, unfolding(jr_ast::specs::View::expr_kind))]

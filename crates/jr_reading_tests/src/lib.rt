@@ -14,7 +14,8 @@
 //! `paths`, `deepest`, `drops`: trees made by hand, paths and copies, the stack that the deepest
 //! trees take, what a drop frees. `reading`, `expressions` with `shown`, `units`, `printing`: texts
 //! read and trees printed. `tables`, `builds`, `programs`, `lookups`, `spellings`, `locals`,
-//! `types`, `names`, `rewriting`: declarations and what stands on them.
+//! `types`, `names`, `rewriting`: declarations and what stands on them. `members`, `graphs` with
+//! `methods` and `parts`: one member bound, its sites and edges, and those of its parts.
 #![tactic(auto)]
 
 #[cfg(test)]
@@ -36,6 +37,8 @@ mod faults;
 #[cfg(test)]
 mod flow;
 #[cfg(test)]
+mod graphs;
+#[cfg(test)]
 mod grid;
 #[cfg(test)]
 mod keys;
@@ -50,9 +53,15 @@ mod locals;
 #[cfg(test)]
 mod lookups;
 #[cfg(test)]
+mod members;
+#[cfg(test)]
+mod methods;
+#[cfg(test)]
 mod names;
 #[cfg(test)]
 mod numbers;
+#[cfg(test)]
+mod parts;
 #[cfg(test)]
 mod paths;
 #[cfg(test)]

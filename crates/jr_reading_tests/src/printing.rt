@@ -70,7 +70,7 @@ fn field_of_what_was_made<A: Numbered>(rt: &impl Abort, alloc: Global) -> Box<Ex
     let mut args = Vec::new(alloc);
     put_arg(rt, &mut args, literal(rt, alloc, 0, 1));
     put_arg(rt, &mut args, literal(rt, alloc, 0, 2));
-    let ty = member_type(rt, alloc, "K");
+    let ty = Box::new(alloc, member_type(rt, alloc, "K")).expect(rt, "memory");
     let made = in_box(rt, alloc, Expr::create(A::of(0), ty, args));
     field(rt, alloc, made, "f")
 }
@@ -78,7 +78,7 @@ fn field_of_what_was_made<A: Numbered>(rt: &impl Abort, alloc: Global) -> Box<Ex
 // `(K) !a`
 fn cast<A: Numbered>(rt: &impl Abort, alloc: Global) -> Box<Expr<A>> {
     let not = unary(rt, alloc, UnOp::Not, simple(rt, alloc, 0, "a"));
-    let ty = class_type(rt, alloc, 0, "K");
+    let ty = Box::new(alloc, class_type(rt, alloc, 0, "K")).expect(rt, "memory");
     in_box(rt, alloc, Expr::cast(A::of(0), ty, not))
 }
 

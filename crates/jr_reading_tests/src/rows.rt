@@ -6,6 +6,7 @@ use crate::depending::{self, cross, depend};
 use crate::edits::{self, cut, edit};
 use crate::expressions::{self, read_expression, read_whole};
 use crate::flow::{self, reach, used};
+use crate::graphs::{self, tell_count_of, tell_of_graph, tell_of_part};
 use crate::grid::{self, moves_behind};
 use crate::layouts::{self, end_of_class, gap};
 use crate::lexing::{self, identify, lex_text, too_deep};
@@ -64,6 +65,11 @@ fn answer(rt: &impl Abort, alloc: Global, table: &Table, asked: &str) -> String 
     let (kind, asked) = cut_at(asked, " ");
     match kind {
         "program" => outcome(rt, alloc, asked),
+        "graph" | "list" => tell_of_graph(rt, alloc, kind, asked),
+        "count" => tell_count_of(rt, alloc, asked),
+        "footprint" | "statements" | "plain" | "before" | "range" | "null" => {
+            tell_of_part(rt, alloc, kind, asked)
+        }
         "superclasses" => superclasses(rt, alloc, asked),
         "fields" => field_types(rt, alloc, asked),
         "text" => write_name(rt, alloc, asked),
@@ -107,6 +113,7 @@ fn rows_about_programs(rt: HostRuntime) {
     assert_rows(&rt, rt.alloc(), "", programs::ROWS, 40);
     assert_rows(&rt, rt.alloc(), "", builds::ROWS, 19);
     assert_rows(&rt, rt.alloc(), "", names::ROWS, 7);
+    assert_rows(&rt, rt.alloc(), "", graphs::ROWS, 107);
     assert_rows(&rt, rt.alloc(), lookups::PROGRAM, lookups::ROWS, 52);
     assert_rows(&rt, rt.alloc(), tables::PROGRAM, tables::ROWS, 35);
     assert_rows(&rt, rt.alloc(), spellings::PROGRAM, spellings::ROWS, 98);

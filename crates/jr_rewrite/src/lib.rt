@@ -22,4 +22,4 @@ mod respellings;
 pub use changes::{Change, edits};
 pub use laws::{changes_are_parts, rewritings_are_one, rewritings_read};
 pub use puts::{put_before, put_behind, put_class, put_super, put_word};
-pub use respellings::{Front, Respelling};
+pub use respellings::{Front, Respelling, front_and_word};

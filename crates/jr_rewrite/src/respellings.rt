@@ -151,7 +151,7 @@ fn on_outer_class(alloc: Global, outer: &str, class: &str, text: &str) -> Result
 }
 
 /// What stands directly in front of the word, and the word.
-pub(crate) fn front_and_word(alloc: Global, to: &Respelling) -> Result<String, AllocError>
+pub fn front_and_word(alloc: Global, to: &Respelling) -> Result<String, AllocError>
     ensures { IfOk result (λ s. string_bytes s
         ≡ front_text (respelling_view to.now).front ++ (respelling_view to.now).text) }
 {

@@ -5,7 +5,7 @@
 //! mean, what scripts are read as, shows, runs and renames (`words`, `scripts`, `shows`,
 //! `dependences`, `runs`, `renames`, `renaming`, `kinds`, `rules`, `endings`). Beside the rows: files
 //! that are fetched and stored, texts of reports and faults, sessions, want of memory (`files`,
-//! `reports`, `faults`, `sessions`, `memory`); `members` binds one member by its key.
+//! `reports`, `faults`, `sessions`, `memory`).
 #![tactic(auto)]
 
 #[cfg(test)]
@@ -20,8 +20,6 @@ mod faults;
 mod files;
 #[cfg(test)]
 mod kinds;
-#[cfg(test)]
-mod members;
 #[cfg(test)]
 mod memory;
 #[cfg(test)]

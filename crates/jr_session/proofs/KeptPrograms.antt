@@ -12,7 +12,12 @@ use Rattle.jr_table.specs.Keys.{ClassKey, MethodKey}
 use Rattle.jr_table.specs.Keyed.{DispatchesTo}
 use Rattle.jr_bind.specs.Programs.{Program, IsProgram, units_of}
 use Rattle.jr_rewrite.specs.Rewritten.{Rewritten}
+use Rattle.jr_program_laws.specs.FileParts.{begins}
 use Rattle.jr_rename_laws.specs.ImageLaws.{without_marks}
+use Rattle.jr_first_values.specs.Laws.{FirstValuesStand, FirstValuesAreOne}
+use Rattle.jr_image_code.specs.KeysIn.{keys_by}
+use Rattle.jr_kept_runs.specs.KeepsRuns.{KeepsFirstValues}
+use Rattle.jr_kept_runs.specs.Laws.{sources_of}
 use Rattle.jr_sound_code.specs.Laws.{ProgramsHaveCode, CodeOfProgramsIsOne, SoundProgramsAreWellTyped}
 use Rattle.jr_sources.specs.Sources.{Source}
 use Rattle.jr_sources.specs.Whole.{Anywhere, IsProgramOf}
@@ -30,10 +35,19 @@ use Rattle.jr_session.proofs.TakenBack.{undone_after}
 abbrev pub HasOneCodeEach : Type 0
 HasOneCodeEach = (p : Program Span) → IsProgram itself Anywhere p → HasOneCode p
 
-pub one_code : ProgramsHaveCode → CodeOfProgramsIsOne → SoundProgramsAreWellTyped → HasOneCodeEach
-one_code have one typed p is =
+pub one_code : ProgramsHaveCode → CodeOfProgramsIsOne → SoundProgramsAreWellTyped → FirstValuesStand Span → FirstValuesAreOne Span → HasOneCodeEach
+one_code have one typed stand once p is =
     let c = have p is in
-    record { code = c.0; is = c.1; one = λ other h. one p is c.0 other c.1 h; typed = typed p is c.0 c.1 }
+    let f = stand begins (units_of p) p.rows is.are_rows is.rows is.clean c.0.rows in
+    record {
+      code = c.0;
+      is = c.1;
+      one = λ other h. one p is c.0 other c.1 h;
+      typed = typed p is c.0 c.1;
+      first = f.0;
+      firsts = f.1;
+      one_first = λ other h k. once begins (units_of p) p.rows is.are_rows is.rows c.0.rows f.0 other f.1 h k;
+    }
 
 -- ---- the program
 
@@ -53,6 +67,7 @@ module _ (s t : State) (ask : Request) (names : List (List ℕ)) (n : ℕ) (is :
     pub rows : q.rows ≡ (images_by ask plan.p plan.text plan.number plan.planned.found).rows
     pub dispatch : (of : ClassKey) (m was : MethodKey) → DispatchesTo plan.p.rows of m was
         → DispatchesTo q.rows ((images_by ask plan.p plan.text plan.number plan.planned.found).class_to of) ((images_by ask plan.p plan.text plan.number plan.planned.found).method_to m) ((images_by ask plan.p plan.text plan.number plan.planned.found).method_to was)
+    pub first_values : KeepsFirstValues (keys_by (images_by ask plan.p plan.text plan.number plan.planned.found)) (sources_of plan.p) (sources_of q)
     pub own : ask.Keeps plan.p plan.text plan.number plan.planned.found plan.planned.becomes.files is.edits plan.renaming q
     pub fit : (i : ℕ) (old : Source) → slice_get s.files i ≡ Some old → (e : List Entry) × (slice_get is.edits i ≡ Some e) × AreEdits e × FitsIn old.text e
 
@@ -86,6 +101,7 @@ module _ (s t : State) (ask : Request) (names : List (List ℕ)) (n : ℕ) (is :
     trees = h.trees;
     rows = h.rows;
     dispatch = h.dispatch;
+    first_values = h.first_values;
     own = h.own;
     code_before = coded plan.p plan.posed.program.is;
     code_behind = coded q is.whole.program.is;

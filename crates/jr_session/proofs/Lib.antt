@@ -1,7 +1,7 @@
 -- States: `Histories`, `Places`, `KeptLaws`, `StateLaws`, `LengthLaws`, `EditLaws`, `Exchanging`,
 -- `Turning`, `SessionSteps`, `StepCases`, `StepFiles`, `RefusalCases`, `Telling` (the places that a
 -- refusal tells). Shows: `ShownLines`, `ShownMembers`, `DependenceShows`, `ShownOnce`, `ShowSteps`, `Showing`. A refactoring: `Making`, `Planning`,
--- `Trying`, `Staying`, `Refactored`, `RefactoredFiles`; a rename: `RenameSteps`, `NewTables`,
+-- `Trying`, `Staying`, `HadBack` (what was analysed before), `Refactored`, `RefactoredFiles`; a rename: `RenameSteps`, `NewTables`,
 -- `NewTells`. One answer: `OneAnswer` (edits, undoing, redoing), `OneFault`, `OneWrong`,
 -- `OneRefactoring`, `RenameRequest`, `OneStep`; `PlanReasons`, `FirstReason`. Promises: `KeptPrograms`
 -- (of any refactoring, by what it shows), `NewPrograms` (of a rename), `NewTrees`, `NewRows`,
@@ -47,4 +47,5 @@ pub mod NewTables
 pub mod KeptPrograms
 pub mod NewPrograms
 pub mod Staying
+pub mod HadBack
 pub mod NewTells

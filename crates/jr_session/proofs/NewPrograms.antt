@@ -29,7 +29,7 @@ use Rattle.jr_reference_changes.specs.Family.{KeepsFamilies, FamiliesAreWhole, F
 use Rattle.jr_reference_changes.specs.Fronts.{FrontsStay}
 use Rattle.jr_reference_changes.specs.Names.{PlansChangeNames}
 use Rattle.jr_reference_changes.specs.PlacesInFiles.{PlansAreOfPlaces}
-use Rattle.jr_kept_runs.specs.Laws.{RenamesKeepRuns}
+use Rattle.jr_kept_runs.specs.Laws.{RenamesKeepRuns, RenamesKeepFirstValues, RenamesKeepHistories}
 use Rattle.jr_sources.specs.Whole.{IsProgramOf}
 use Rattle.jr_session.specs.NewTexts.{with_edits}
 use Rattle.jr_session.specs.Asked.{KeepsNames, rename}
@@ -75,7 +75,7 @@ module _ (g : Renaming) (rows : List Row) (declarations : List DeclaredItem) whe
 
 -- ---- the law
 
-module _ (one : OneReading Span) (named : RowsAreNamed Span) (dots : NamesHaveNoDot) (plans : PlansBecome Span) (read : NewTextsRead) (references : ReferencesStay) (images : NewProgramsAreImages) (built : BuiltRowsAreImages Span Span) (ctors : ConstructorsGiveImages Span Span) (dispatch : DispatchIsKept) (runs : RenamesKeepRuns)
+module _ (one : OneReading Span) (named : RowsAreNamed Span) (dots : NamesHaveNoDot) (plans : PlansBecome Span) (read : NewTextsRead) (references : ReferencesStay) (images : NewProgramsAreImages) (built : BuiltRowsAreImages Span Span) (ctors : ConstructorsGiveImages Span Span) (dispatch : DispatchIsKept) (runs : RenamesKeepRuns) (firsts : RenamesKeepFirstValues) (histories : RenamesKeepHistories)
     (fronts : FrontsStay) (family : FamiliesAreWhole) (families : FamiliesAreKept) (places : PlansAreOfPlaces) (on_names : PlansChangeNames)
     (s t : State) (file : List ℕ) (at : ℕ) (new : List ℕ) (names : List (List ℕ)) (n : ℕ) (is : Refactors s (rename file at new) names n t)
   where
@@ -115,6 +115,7 @@ module _ (one : OneReading Span) (named : RowsAreNamed Span) (dots : NamesHaveNo
       places = places p step_plan.text step_plan.number at new is.edits step_plan.renaming n plan;
       names = on_names p step_plan.text step_plan.number at new is.edits step_plan.renaming n plan;
       runs = runs p q step_plan.text step_plan.number at new is.edits step_plan.renaming n plan trees new_images.0 new_images.1;
+      histories = histories p q step_plan.text step_plan.number at new is.edits step_plan.renaming n plan trees new_images.0 new_images.1;
     }
 
     shown : IsShown s t (rename file at new) names n is
@@ -124,6 +125,7 @@ module _ (one : OneReading Span) (named : RowsAreNamed Span) (dots : NamesHaveNo
       dispatch = λ of m was goes.
           subst (λ (rows : List Row). DispatchesTo rows (class_to g of) (method_to g m) (method_to g was)) (sym new_images.0)
           (dispatch p.rows g before.is.are_rows (subst AreRows new_images.0 is.whole.program.is.are_rows) plan.planned.dispatch of m was goes);
+      first_values = firsts p q step_plan.text step_plan.number at new is.edits step_plan.renaming n plan trees new_images.0 new_images.1;
       own = names_kept;
       fit = λ i old there.
           (let b = became read s.files p before step_plan.text step_plan.number at new is.edits step_plan.renaming n plan i old there in
@@ -132,9 +134,9 @@ module _ (one : OneReading Span) (named : RowsAreNamed Span) (dots : NamesHaveNo
 
 -- ---- all steps
 
-pub steps_keep : OneReading Span → RowsAreNamed Span → NamesHaveNoDot → PlansBecome Span → NewTextsRead → ReferencesStay → NewProgramsAreImages → BuiltRowsAreImages Span Span → ConstructorsGiveImages Span Span → DispatchIsKept → RenamesKeepRuns → FrontsStay → FamiliesAreWhole → FamiliesAreKept → PlansAreOfPlaces → PlansChangeNames → HasOneCodeEach → UntouchedBytesMove → StepsKeepPrograms
-steps_keep one named dots plans read references images built ctors dispatch runs fronts family families places on_names coded move s t (step.Rename file at new) reply h =
+pub steps_keep : OneReading Span → RowsAreNamed Span → NamesHaveNoDot → PlansBecome Span → NewTextsRead → ReferencesStay → NewProgramsAreImages → BuiltRowsAreImages Span Span → ConstructorsGiveImages Span Span → DispatchIsKept → RenamesKeepRuns → RenamesKeepFirstValues → RenamesKeepHistories → FrontsStay → FamiliesAreWhole → FamiliesAreKept → PlansAreOfPlaces → PlansChangeNames → HasOneCodeEach → UntouchedBytesMove → StepsKeepPrograms
+steps_keep one named dots plans read references images built ctors dispatch runs firsts histories fronts family families places on_names coded move s t (step.Rename file at new) reply h =
     λ done.
     (let r = renamed_of s t file at new reply h done in
-    keeps_program s t (rename file at new) r.0 r.1 r.2 coded move (shown one named dots plans read references images built ctors dispatch runs fronts family families places on_names s t file at new r.0 r.1 r.2))
-steps_keep one named dots plans read references images built ctors dispatch runs fronts family families places on_names coded move s t of reply h = tt
+    keeps_program s t (rename file at new) r.0 r.1 r.2 coded move (shown one named dots plans read references images built ctors dispatch runs firsts histories fronts family families places on_names s t file at new r.0 r.1 r.2))
+steps_keep one named dots plans read references images built ctors dispatch runs firsts histories fronts family families places on_names coded move s t of reply h = tt

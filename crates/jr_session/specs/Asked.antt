@@ -21,7 +21,7 @@ use Rattle.jr_reference_changes.specs.Fronts.{AreFronted}
 use Rattle.jr_reference_changes.specs.Names.{AreOnNames}
 use Rattle.jr_reference_changes.specs.PlacesInFiles.{AreOfPlaces}
 use Rattle.jr_kept_runs.specs.KeysTo.{keys_to}
-use Rattle.jr_kept_runs.specs.KeepsRuns.{KeepsRuns}
+use Rattle.jr_kept_runs.specs.KeepsRuns.{KeepsRuns, KeepsHistories}
 use Rattle.jr_kept_runs.specs.Laws.{sources_of}
 use Rattle.jr_session.specs.Requests.{Request, Asks, refactors, nothing}
 
@@ -57,6 +57,10 @@ pub record KeepsNames (p : Program Span) (d : Decl) (g : Renaming) (new : List �
   -- arguments of its types, has in q exactly the images of its runs in p, whole ones with the same
   -- end and bounded ones, both ways.
   pub runs : KeepsRuns (keys_to g) (sources_of p) (sources_of q)
+  -- What several threads do together is the same, whatever first values are: each history of p, of
+  -- threads with starts and sequential memory (JLS 17.4), has its image in q, and each history of q
+  -- is the image of one of p.
+  pub histories : KeepsHistories (keys_to g) (sources_of p) (sources_of q)
 
 -- what the identifier at the byte of the file declares or is bound to gets the name
 abbrev pub rename : (file : List ℕ) → (at : ℕ) → (new : List ℕ) → Request

@@ -21,6 +21,7 @@ pub mod RenameReasons
 pub mod Planning
 pub mod Making
 pub mod Trying
+pub mod HadBack
 pub mod Refactoring
 pub mod Promises
 pub mod TableTells

@@ -4,7 +4,7 @@ use Rattle.jr_text.specs.declared.spans.Span.{Span}
 use Rattle.jr_text.specs.Edits.{Entry, AreEdits, FitsIn}
 use Rattle.jr_text.specs.Splices.{splice, IsUntouched, moved_to}
 use Rattle.jr_ast.specs.MemberTree.{Unit as UnitTree}
-use Rattle.jr_table.specs.Keys.{ClassKey, MethodKey}
+use Rattle.jr_table.specs.Keys.{ClassKey, FieldKey, MethodKey}
 use Rattle.jr_table.specs.Decls.{Decl}
 use Rattle.jr_table.specs.Errors.{IsSound}
 use Rattle.jr_table.specs.Keyed.{DispatchesTo}
@@ -15,12 +15,14 @@ use Rattle.jr_names.specs.Replies.{Reply, refused, undone}
 use Rattle.jr_bind.specs.Programs.{Program, units_of}
 use Rattle.jr_program_laws.specs.FileParts.{begins}
 use Rattle.jr_runs.specs.Core as core
+use Rattle.jr_runs.specs.FirstValues.{First}
 use Rattle.jr_runs.specs.Typing.{WellTyped}
 use Rattle.jr_code.specs.RunKeys.{RunKeys}
 use Rattle.jr_rewrite.specs.Rewritten.{Rewritten}
 use Rattle.jr_plan.specs.Reasons.{IsPlanned}
 use Rattle.jr_rename_laws.specs.ImageLaws.{without_marks}
-use Rattle.jr_kept_runs.specs.KeepsRuns.{AreCode}
+use Rattle.jr_image_code.specs.KeysIn.{keys_by}
+use Rattle.jr_kept_runs.specs.KeepsRuns.{AreCode, AreFirsts, KeepsFirstValues}
 use Rattle.jr_kept_runs.specs.Laws.{sources_of}
 use Rattle.jr_sources.specs.Sources.{Source, texts_of}
 use Rattle.jr_sources.specs.Whole.{IsProgramOf}
@@ -54,12 +56,17 @@ pub record IsTakenBack (s t : State) (reply : Reply) (u : State) : Type 0 where
   pub shown : u.shown ≡ s.shown
 
 -- The program is a resolved one, as runs see it, and just one; this one is well typed, so calls in
--- its runs are made on receivers of the class and arguments of the types.
+-- its runs are made on receivers of the class and arguments of the types. Its static fields begin
+-- with something, and each with one thing.
 pub record HasOneCode (p : Program Span) : Type 0 where
   pub code : core.Program RunKeys
   pub is : AreCode (sources_of p) code
   pub one : (other : core.Program RunKeys) → AreCode (sources_of p) other → code ≡ other
   pub typed : WellTyped code
+  pub first : FieldKey → First RunKeys
+  pub firsts : AreFirsts (sources_of p) code first
+  pub one_first : (other : FieldKey → First RunKeys) → AreFirsts (sources_of p) code other
+      → (k : FieldKey) → first k ≡ other k
 
 -- The sources `s.files` are the program p, for which the refactoring is planned, and the sources
 -- `t.files` are the program q: read, bound and sound from scratch.
@@ -88,9 +95,12 @@ pub record KeepsProgram (s : State) (ask : Request) (t : State) : Type 0 where
       → DispatchesTo q.rows ((images_by ask p text number plan.found).class_to of)
       ((images_by ask p text number plan.found).method_to m)
       ((images_by ask p text number plan.found).method_to was)
-  -- what the refactoring promises besides: of references, of places, of runs
+  -- each static field begins in q with the image of what it began with in p
+  pub first_values : KeepsFirstValues (keys_by (images_by ask p text number plan.found))
+      (sources_of p) (sources_of q)
+  -- what the refactoring promises besides: of references, of places, of runs and histories
   pub own : ask.Keeps p text number plan.found plan.becomes.files edits renaming q
-  -- each of the two is a resolved program, just one
+  -- each of the two is a resolved program, just one, and has first values
   pub code_before : HasOneCode p
   pub code_behind : HasOneCode q
   -- each file is spliced by its edits, and there are no others

@@ -6,7 +6,7 @@ use Rattle.jr_rename.specs.declared.afters.After.TheVariants as after
 use Rattle.jr_sources.specs.declared.analyses.Analysis.{Analysis}
 use Rattle.jr_sources.specs.declared.analyses.EarlierAnalysis.{EarlierAnalysis}
 use Rattle.jr_sources.specs.Sources.{Source}
-use Rattle.jr_sources.specs.Tables.{IsTableOf}
+use Rattle.jr_sources.specs.Tables.{IsTableOf, HaveSameTable}
 use Rattle.jr_session.specs.declared.plans.Planned.{Planned}
 use Rattle.jr_session.specs.declared.plans.Planned.TheVariants as plan
 use Rattle.jr_session.specs.NewTexts.{with_edits}
@@ -23,8 +23,7 @@ TellsTable news analysed (after.Images table) = IsTableOf news table
 abbrev pub TellsNow : (news : List Source) → Option EarlierAnalysis → After → Type 0
 TellsNow news given after.Unknown = Unit {0}
 TellsNow news given (after.Maybe table) = Unit {0}
-TellsNow news given after.Same =
-    (e : EarlierAnalysis) → given ≡ Some e → IsTableOf news e.analysis.table
+TellsNow news given after.Same = HaveSameTable news given
 TellsNow news given (after.Images table) = IsTableOf news table
 
 -- of the sources with planned edits

@@ -6,8 +6,9 @@ ghost use Rattle.jr_session.specs.StepLaws.{HasOneAnswer, HasOneShow, RenamesAre
 use jr_cursor::one_is_target;
 use jr_dependence_lines::lines_are_one;
 use jr_dispatch::dispatch_is_kept;
+use jr_first_values::first_values_stand;
 use jr_images::rows_are_named;
-use jr_kept_runs::renames_keep_runs;
+use jr_kept_runs::{renames_keep_histories, renames_keep_runs};
 use jr_lex::one_answer;
 use jr_lines::lines_are_told;
 use jr_members::members_are_written;
@@ -58,13 +59,15 @@ pub fn renames_are_refused_first()
 /// Where a session accepts a refactoring, the sources behind the step are a program again: read,
 /// bound and sound from scratch. It is read as the planned trees, its rows are those that the
 /// refactoring states, and what a call runs is the image of what it ran. Each of the two programs
-/// has resolved code, just one and well typed. Each byte that lies in no edit's span is as before,
-/// and an undoing right behind the step gives back every byte of every file. Of a rename, each
-/// reference is bound to the image of what it was bound to (JLS 6), whatever is renamed; in front
-/// of it stands what stood there, `this`, `super`, a cast or a class; the renamed family is
-/// complete, and methods override one another where their images do (JLS 8.4.8.1); edits are those
-/// of the references and declared names that stay, and lie on names; and the resolved programs are
-/// exactly alike.
+/// has resolved code, just one and well typed, and its static fields begin with something, each in
+/// the new program with the image of what it began with. Each byte that lies in no edit's span is
+/// as before, and an undoing right behind the step gives back every byte of every file. Of a
+/// rename, each reference is bound to the image of what it was bound to (JLS 6), whatever is
+/// renamed; in front of it stands what stood there, `this`, `super`, a cast or a class; the renamed
+/// family is complete, and methods override one another where their images do (JLS 8.4.8.1); edits
+/// are those of the references and declared names that stay, and lie on names; the resolved
+/// programs are exactly alike; and so each history of several threads (JLS 17.4) of either is one
+/// of the other.
 pub fn accepted_refactorings_keep_programs()
     ensures { StepsKeepPrograms }
 {
@@ -76,6 +79,7 @@ pub fn accepted_refactorings_keep_programs()
     plans_keep_programs();
     dispatch_is_kept();
     renames_keep_runs();
+    renames_keep_histories();
     fronts_stay();
     families_are_whole();
     families_are_kept();
@@ -83,6 +87,7 @@ pub fn accepted_refactorings_keep_programs()
     plans_change_names();
     programs_have_code();
     sound_programs_are_well_typed();
+    first_values_stand::<Span>();
     untouched_bytes_move();
 }
 

@@ -69,7 +69,10 @@ impl Session {
             after,
             steps,
         )? {
-            Tried::Wrong(fault) => would_not_compile(alloc, fault),
+            Tried::Wrong(fault) => {
+                self.analysed = analysed.take();
+                would_not_compile(alloc, fault)
+            }
             Tried::Sound { analysis, had } => {
                 sources_are_program(&self.sources, &self.readings, &analysis);
                 self.analysed = Some(analysis);
@@ -87,8 +90,7 @@ impl Session {
     /// the sources that have the new texts.
     ///
     /// `after` tells of the table of the sources that have the new texts, and `analysed` is what
-    /// was analysed of the old ones: it is kept again where the new texts aren't tried, and of no
-    /// use then.
+    /// was analysed of the old ones: it is kept again behind a refusal, and of no use then.
     ///
     /// Want of memory leaves the session as it was, and so does a refusal.
     pub(crate) fn refactor<L: Ledger>(

@@ -1,25 +1,27 @@
 //! New texts are tried: what is first wrong with the sources that have them is told, or else they
 //! stay, with what was read and analysed of them.
 ghost use Rattle.std.specs.Prelude.{◌≡◌, length, IfOk, OnErr, Some};
-ghost use Rattle.jr_rename.specs.declared.afters.After.TheVariants.{Same};
 ghost use Rattle.jr_sources.specs.Analysed.{CostsBinding, IsAnalysed, IsAnalysis};
 ghost use Rattle.jr_sources.specs.Analysed.{IsKeptAnalysis};
 ghost use Rattle.jr_sources.specs.BindingErrors.{AreSound};
 ghost use Rattle.jr_sources.specs.Earlier.{IsMaybeEarlier};
+ghost use Rattle.jr_sources.specs.HadBack.{IsNotLost};
 ghost use Rattle.jr_sources.specs.KeptReadings.{AreReadings};
 ghost use Rattle.jr_sources.specs.Sources.{AreSources, texts_of};
 ghost use Rattle.jr_session.specs.Changes.{put_back, AreOfFiles};
 ghost use Rattle.jr_session.specs.TableTells.{TellsNow, TellsTable};
 ghost use Rattle.jr_session.specs.Trying.{IsJudged, IsTried, AreSomeProgram};
 ghost use Rattle.jr_session.specs.Trying.{changes_file, AreUnchanged, IsOfAnalysed};
+ghost use Rattle.jr_session.specs.HadBack.{IsHadBack, IsHadBackBy, IsLeftBy, IsLeft, IsAnalysisOf};
+ghost use Rattle.jr_session.specs.HadBack.{IsGiven, StaysFilled};
 
 use crate::changes::Change;
 use crate::plans::kept;
 use crate::turns::{exchange_all, readings_of};
 use jr_rename::After;
 use jr_sources::{
-    Analysed, Analysis, EarlierAnalysis, Readings, SourceFault, Sources, Whole, analyse,
-    analyse_same, analyse_with, first_error,
+    Analysed, Analysis, EarlierAnalysis, FormerAnalysis, Readings, SourceFault, Sources, Whole,
+    analyse, analyse_same, analyse_with, first_error,
 };
 use jr_steps::Steps;
 use jr_table::Table;
@@ -54,17 +56,42 @@ fn forget(_analysis: Analysis) {}
 
 fn forget_earlier(_earlier: Option<EarlierAnalysis>) {}
 
-// What comes of sources that have no fault.
-fn judge_analysed(sources: &Sources, analysis: Analysis) -> Judged
+fn forget_former(_former: Option<FormerAnalysis>) {}
+
+// What was analysed of the earlier sources, if it was.
+fn had_back(former: Option<FormerAnalysis>, later: Analysis) -> Option<EarlierAnalysis>
+    ensures { IsHadBack former later result }
+{
+    match former {
+        None => {
+            forget(later);
+            None
+        }
+        Some(former) => Some(former.restore(later)),
+    }
+}
+
+// What comes of sources that have no fault. Where a member breaks a rule, what was analysed of the
+// earlier sources is there again.
+fn judge_analysed(
+    sources: &Sources,
+    analysis: Analysis,
+    former: Option<FormerAnalysis>,
+    earlier: &mut Option<EarlierAnalysis>,
+) -> Judged
     requires { IsAnalysis sources.now analysis }
-    ensures { IsJudged sources.now result }
+    ensures judged { IsJudged sources.now result }
+    ensures left { IsHadBackBy former analysis earlier.new result }
 {
     match first_error(sources, &analysis) {
         Some(error) => {
-            forget(analysis);
+            *earlier = had_back(former, analysis);
             Judged::Wrong(error)
         }
-        None => Judged::Sound(analysis),
+        None => {
+            forget_former(former);
+            Judged::Sound(analysis)
+        }
     }
 }
 
@@ -92,33 +119,12 @@ fn analyse_known<L: Ledger>(
     requires readings { AreReadings (texts_of sources.now) readings.now }
     requires earlier { IsMaybeEarlier sources.now earlier.old }
     ensures analysed { IfOk result (IsAnalysed sources.now) }
+    ensures left { IfOk result (IsNotLost earlier.old earlier.new) }
     ensures cost { CostsBinding sources.now steps.old steps.new }
 {
     let mut known = known;
     let analysed = analyse(alloc, sources, readings, &mut known, earlier, steps);
     kept(analysed, known)
-}
-
-// What is known of sources that have the table of the earlier ones, if what was analysed of these
-// is given.
-fn analyse_again<L: Ledger>(
-    alloc: Global,
-    sources: &Sources,
-    readings: &Readings,
-    earlier: &mut Option<EarlierAnalysis>,
-    steps: &mut Steps<L>,
-) -> Result<Analysed, AllocError>
-    requires valid { AreSources sources.now }
-    requires readings { AreReadings (texts_of sources.now) readings.now }
-    requires earlier { IsMaybeEarlier sources.now earlier.old }
-    requires told { TellsNow sources.now earlier.old Same }
-    ensures analysed { IfOk result (IsAnalysed sources.now) }
-    ensures cost { CostsBinding sources.now steps.old steps.new }
-{
-    match earlier.take() {
-        Some(earlier) => analyse_same(alloc, sources, readings, earlier, steps),
-        None => analyse_known(alloc, sources, readings, None, earlier, steps),
-    }
 }
 
 // What is known of sources, by what is known of their table.
@@ -135,11 +141,12 @@ fn analyse_told<L: Ledger>(
     requires earlier { IsMaybeEarlier sources.now earlier.old }
     requires told { TellsNow sources.now earlier.old after }
     ensures analysed { IfOk result (IsAnalysed sources.now) }
+    ensures left { IfOk result (IsNotLost earlier.old earlier.new) }
     ensures cost { CostsBinding sources.now steps.old steps.new }
 {
     match after {
         After::Images(table) => analyse_with(alloc, sources, readings, table, earlier, steps),
-        After::Same => analyse_again(alloc, sources, readings, earlier, steps),
+        After::Same => analyse_same(alloc, sources, readings, earlier, steps),
         After::Maybe(table) => {
             analyse_known(alloc, sources, readings, Some(table), earlier, steps)
         }
@@ -160,12 +167,15 @@ fn judge<L: Ledger>(
     requires earlier { IsMaybeEarlier sources.now earlier.old }
     requires told { TellsNow sources.now earlier.old after.old }
     ensures judged { IfOk result (IsJudged sources.now) }
+    ensures left { IfOk result (IsLeftBy earlier.old earlier.new) }
     ensures cost { CostsBinding sources.now steps.old steps.new }
 {
     let _count = sources.count();
     let told = mem::replace(after, After::Unknown);
     match analyse_told(alloc, sources, readings, told, earlier, steps)? {
-        Analysed::Program(analysis) => Ok(judge_analysed(sources, analysis)),
+        Analysed::Program { analysis, former } => {
+            Ok(judge_analysed(sources, analysis, former, earlier))
+        }
         Analysed::Fault(fault) => Ok(Judged::Wrong(fault)),
     }
 }
@@ -189,6 +199,7 @@ fn try_by<L: Ledger>(
     ensures tried { IfOk result (IsTried sources.old changes.items sources.new) }
     ensures err { OnErr result (sources.new ≡ sources.old) }
     ensures readings { AreReadings (texts_of sources.new) readings.new }
+    ensures left { IfOk result (IsLeft earlier.old earlier.new) }
     ensures cost { CostsBinding (put_back sources.old changes.items) steps.old steps.new }
 {
     let with = readings_of(alloc, changes.as_slice())?;
@@ -231,11 +242,22 @@ fn unchanged(alloc: Global, count: u32, changes: &[Change]) -> Result<Vec<bool>,
 
 // What was analysed before files got other texts, if it was.
 fn earlier_of(analysed: Option<Analysis>, stays: Vec<bool>) -> Option<EarlierAnalysis>
-    ensures { IsOfAnalysed analysed stays.items result }
+    ensures of { IsOfAnalysed analysed stays.items result }
+    ensures given { IsGiven analysed result }
 {
     match analysed {
         None => None,
         Some(analysis) => Some(EarlierAnalysis { analysis, stays }),
+    }
+}
+
+// What was analysed, if it was.
+fn analysis_of(earlier: Option<EarlierAnalysis>) -> Option<Analysis>
+    ensures { IsAnalysisOf earlier result }
+{
+    match earlier {
+        None => None,
+        Some(earlier) => Some(earlier.into_analysis()),
     }
 }
 
@@ -245,7 +267,8 @@ fn earlier_of(analysed: Option<Analysis>, stays: Vec<bool>) -> Option<EarlierAna
 ///
 /// `after` tells of the table of the sources that have the new texts, so that no other is made.
 /// What was analysed of the old texts is taken, so that members that keep what is bound of them
-/// need not be bound again.
+/// need not be bound again; where something is wrong with the new ones it is there again, and so
+/// nothing need be bound again of the old ones.
 pub(crate) fn try_texts<L: Ledger>(
     alloc: Global,
     sources: &mut Sources,
@@ -263,11 +286,13 @@ pub(crate) fn try_texts<L: Ledger>(
     ensures err { OnErr result (sources.new ≡ sources.old) }
     ensures readings { AreReadings (texts_of sources.new) readings.new }
     ensures analysed { IsKeptAnalysis sources.new analysed.new }
+    // Behind what is wrong, all that was analysed is: of these sources nothing is bound again.
+    ensures filled { IfOk result (StaysFilled analysed.old analysed.new) }
     ensures cost { CostsBinding (put_back sources.old changes.items) steps.old steps.new }
 {
     let stays = unchanged(alloc, sources.count(), changes.as_slice())?;
     let mut earlier = earlier_of(analysed.take(), stays);
-    let tried = try_by(
+    match try_by(
         alloc,
         sources,
         readings,
@@ -275,7 +300,18 @@ pub(crate) fn try_texts<L: Ledger>(
         after,
         &mut earlier,
         steps,
-    );
-    forget_earlier(earlier);
-    tried
+    ) {
+        Ok(Tried::Wrong(fault)) => {
+            *analysed = analysis_of(earlier);
+            Ok(Tried::Wrong(fault))
+        }
+        Ok(Tried::Sound { analysis, had }) => {
+            forget_earlier(earlier);
+            Ok(Tried::Sound { analysis, had })
+        }
+        Err(error) => {
+            forget_earlier(earlier);
+            Err(error)
+        }
+    }
 }

@@ -1,7 +1,8 @@
 -- Sources: `SourceLaws`, `Entries`, `Totals`. Readings: `Lexing`, `AllRead`, `Faulty`, `Filled`,
 -- `FirstTokens`, `Heads`, `Spans`, `PartsFit`, `ReadUnits`. Analyses: `Analysing`, `SourceFaults`,
 -- `InFiles`, `DeclarationFiles`, `WrittenOrder` (members in the order of their files),
--- `MembersFew`; `Binding` has what all calls say of bound members, `Rebinding` what is kept.
+-- `MembersFew`; `Binding` has what all calls say of bound members, `Rebinding` what is kept,
+-- `HadBack` what is had back.
 -- `Nearer`, `FirstErrors`: the first broken rule. `WholeProgram`: sources without faults and errors
 -- are a program, and the tokens by which members are bound are those of the readings.
 pub mod SourceLaws
@@ -26,4 +27,5 @@ pub mod WholeProgram
 pub mod FirstErrors
 pub mod MembersFew
 pub mod Rebinding
+pub mod HadBack
 pub mod Binding

@@ -65,7 +65,7 @@ pub record IsSourceWrong (sources : List Source) (f : SourceFault) : Type 0 wher
   pub first : IsFirstWrong sources name f.at f.kind.now
 
 abbrev pub IsAnalysed : List Source → Analysed → Type 0
-IsAnalysed sources (what.Program a) = IsAnalysis sources a
+IsAnalysed sources (what.Program a former) = IsAnalysis sources a
 IsAnalysed sources (what.Fault f) = IsSourceFault sources f
 
 -- what was analysed, if anything was

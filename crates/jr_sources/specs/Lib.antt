@@ -14,4 +14,5 @@ pub mod Whole
 pub mod Asking
 pub mod WholeView
 pub mod Earlier
+pub mod HadBack
 pub mod Tables

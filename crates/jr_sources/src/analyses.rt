@@ -1,6 +1,8 @@
 //! What was analysed of sources.
 ghost use Rattle.std.specs.Prelude.{◌≡◌};
+ghost use Rattle.jr_sources.specs.HadBack.{GivesBack, table_before};
 
+use jr_cache::Former;
 use jr_program::MemberBound;
 use jr_table::Table;
 
@@ -59,6 +61,75 @@ impl EarlierAnalysis {
         let (table, members) = analysis.parts();
         (table, members, stays)
     }
+
+    /// What was analysed.
+    pub fn into_analysis(self) -> Analysis
+        ensures { result ≡ self.analysis }
+    {
+        let EarlierAnalysis { analysis, stays: _ } = self;
+        analysis
+    }
+}
+
+/// What gives back what was analysed of earlier sources, with what is analysed of the later ones.
+pub struct FormerAnalysis {
+    // None where the later sources have the same.
+    pub(crate) table: Option<Table>,
+    pub(crate) members: Former,
+    pub(crate) stays: Vec<bool>,
+}
+
+impl Drop for FormerAnalysis {
+    fn drop(self) {
+        let FormerAnalysis {
+            table: _,
+            members: _,
+            stays: _,
+        } = self;
+    }
+}
+
+// The table of earlier sources, if it isn't the same.
+fn earlier_table(table: Option<Table>, later: Table) -> Table
+    ensures { result ≡ table_before table later }
+{
+    match table {
+        None => later,
+        Some(table) => {
+            drop(later);
+            table
+        }
+    }
+}
+
+impl FormerAnalysis {
+    fn parts(self) -> (Option<Table>, Former, Vec<bool>)
+        ensures table { result.0 ≡ self.table }
+        ensures members { result.1 ≡ self.members }
+    {
+        let FormerAnalysis {
+            table,
+            members,
+            stays,
+        } = self;
+        (table, members, stays)
+    }
+
+    /// What was analysed of the earlier sources. It takes no memory.
+    pub fn restore(self, later: Analysis) -> EarlierAnalysis
+        ensures { GivesBack result later.table later.members.items self }
+    {
+        let parts = later.parts();
+        let own = self.parts();
+        let (table, members) = parts;
+        let (before, former, stays) = own;
+        let table = earlier_table(before, table);
+        let members = former.restore(members);
+        EarlierAnalysis {
+            analysis: Analysis { table, members },
+            stays,
+        }
+    }
 }
 
 /// The first fault of sources: the number of its file, its byte, and the name of its kind.
@@ -72,6 +143,10 @@ pub struct SourceFault {
 /// What comes of an analysis.
 #[derive(Drop)]
 pub enum Analysed {
-    Program(Analysis),
+    /// With what gives back what was analysed of earlier sources, if that was given.
+    Program {
+        analysis: Analysis,
+        former: Option<FormerAnalysis>,
+    },
     Fault(SourceFault),
 }

@@ -10,13 +10,16 @@
 //! is none the table and all bound members are kept. `analyse` may be given what was analysed of
 //! earlier sources with which files' texts are the same, and binds by it (`jr_cache`);
 //! `analyse_with` takes the table from the caller, who knows that it is that of the sources if
-//! these read; `analyse_same` that of the earlier sources. `broken`, `errors`: the first rule that
-//! a member breaks. `asks`: what refuses a refactoring before its sources are analysed. `whole`:
-//! sources without faults and errors, as they are lent to refactorings.
+//! these read; `analyse_same` that of the earlier sources. What was given isn't lost: it can be had
+//! back, without memory, as long as the new analysis is whole (`FormerAnalysis`). `binds`: written
+//! members are bound. `broken`, `errors`: the first rule that a member breaks. `asks`: what refuses
+//! a refactoring before its sources are analysed. `whole`: sources without faults and errors, as
+//! they are lent to refactorings.
 #![tactic(auto)]
 
 mod analyses;
 mod asks;
+mod binds;
 mod broken;
 mod errors;
 mod faults;
@@ -28,7 +31,7 @@ mod readings;
 mod sources;
 mod whole;
 
-pub use analyses::{Analysed, Analysis, EarlierAnalysis, SourceFault};
+pub use analyses::{Analysed, Analysis, EarlierAnalysis, FormerAnalysis, SourceFault};
 pub use asks::refusal_of_request;
 pub use errors::first_error;
 pub use faults::{FaultKind, ReadingFault};

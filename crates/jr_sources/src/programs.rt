@@ -1,19 +1,17 @@
 //! Sources are analysed: their table is made, and their members are bound.
-ghost use Rattle.std.specs.Prelude.{◌+◌, ◌≤◌, length, map, IfOk, IfNone, MatchOption};
+ghost use Rattle.std.specs.Prelude.{◌≡◌, map, IfOk, IfNone, MatchOption, None, Some};
 ghost use Rattle.jr_ast.specs.View.{unit_of};
-ghost use Rattle.jr_members.specs.PartView.{written_of};
-ghost use Rattle.jr_program.specs.Members.{EachOf, CanBind, AreKnown, AreEachBound};
-ghost use Rattle.jr_program.specs.Members.{AreInFileOrder, AreWrittenInOrder};
-ghost use Rattle.jr_cache.specs.Rebinding.{IsRebinding};
 ghost use Rattle.jr_sources.specs.Analysed.{AreLexed, IsAnalysed, IsSourceFault, IsKeptAnalysis};
 ghost use Rattle.jr_sources.specs.Analysed.{IsFilled, CostsBinding};
-ghost use Rattle.jr_sources.specs.Earlier.{IsEarlier, IsMaybeEarlier, CanRebind};
+ghost use Rattle.jr_sources.specs.Earlier.{IsEarlier, IsMaybeEarlier};
 ghost use Rattle.jr_sources.specs.FirstFault.{AreRead};
+ghost use Rattle.jr_sources.specs.HadBack.{IsNotLost};
 ghost use Rattle.jr_sources.specs.KeptReadings.{AreReadings};
 ghost use Rattle.jr_sources.specs.Sources.{AreSources, texts_of};
-ghost use Rattle.jr_sources.specs.Tables.{IsTableOf};
+ghost use Rattle.jr_sources.specs.Tables.{IsTableOf, HaveSameTable};
 
-use crate::analyses::{Analysed, Analysis, EarlierAnalysis, SourceFault};
+use crate::analyses::{Analysed, Analysis, EarlierAnalysis, FormerAnalysis, SourceFault};
+use crate::binds::{bind_written, forget_table};
 use crate::first_faults::first_of;
 use crate::kept::Readings;
 use crate::reading_laws::text_has_one_reading;
@@ -23,7 +21,7 @@ use jr_build::{BuildFault, build};
 use jr_cache::{ChangedProgram, rebind_members};
 use jr_lex::one_answer;
 use jr_members::{WrittenMember, members_are_written, written_members};
-use jr_program::{MemberBound, Tokens, bind_members};
+use jr_program::{MemberBound, Tokens};
 use jr_program_laws::{one_is_bound, parts_are_placed};
 use jr_steps::Steps;
 use jr_table::Table;
@@ -40,73 +38,9 @@ struct ReadFiles<'a> {
     tokens: &'a [Tokens],
 }
 
-// Lets a table go. A call of this costs less than to let it go in each place, and an unused
-// parameter less than `drop`.
-fn forget_table(_table: Table) {}
-
 fn forget_bounds(_members: Vec<MemberBound>) {}
 
 fn forget_written(_written: Vec<WrittenMember<'_, Span>>) {}
-
-// What binding knows of written members, by what it knew of those of earlier sources.
-fn bind_by<L: Ledger>(
-    alloc: Global,
-    table: &Table,
-    tokens: &[Tokens],
-    written: &[WrittenMember<'_, Span>],
-    earlier: EarlierAnalysis,
-    steps: &mut Steps<L>,
-) -> Result<Vec<MemberBound>, AllocError>
-    requires each { EachOf (CanBind table.now tokens.now) (map written_of written.now) }
-    requires earlier { IsRebinding earlier.analysis.table table.now tokens.now
-        (map written_of written.now) earlier.stays.items earlier.analysis.members.items }
-    ensures known { IfOk result (λ bounds.
-        AreKnown table.now tokens.now (map written_of written.now) bounds.items) }
-    ensures each { IfOk result (λ bounds.
-        AreEachBound table.now tokens.now (map written_of written.now) bounds.items) }
-    ensures order { IfOk result (λ bounds. AreWrittenInOrder (map written_of written.now)
-        → AreInFileOrder bounds.items) }
-    ensures least { steps.old ≤ steps.new }
-    ensures most { steps.new ≤ steps.old + length written.now }
-{
-    let (before, members, stays) = earlier.parts();
-    let program = &ChangedProgram {
-        table,
-        tokens,
-        written,
-        before: &before,
-        stays: stays.as_slice(),
-    };
-    let bound = rebind_members(alloc, program, members, steps);
-    forget_table(before);
-    bound
-}
-
-// The same, if that is given, which is of no use then; else by themselves.
-fn bind_written<L: Ledger>(
-    alloc: Global,
-    table: &Table,
-    tokens: &[Tokens],
-    written: &[WrittenMember<'_, Span>],
-    earlier: &mut Option<EarlierAnalysis>,
-    steps: &mut Steps<L>,
-) -> Result<Vec<MemberBound>, AllocError>
-    requires each { EachOf (CanBind table.now tokens.now) (map written_of written.now) }
-    requires earlier { CanRebind table.now tokens.now (map written_of written.now) earlier.old }
-    ensures known { IfOk result (λ bounds.
-        AreKnown table.now tokens.now (map written_of written.now) bounds.items) }
-    ensures each { IfOk result (λ bounds.
-        AreEachBound table.now tokens.now (map written_of written.now) bounds.items) }
-    ensures order { IfOk result (λ bounds. AreWrittenInOrder (map written_of written.now)
-        → AreInFileOrder bounds.items) }
-    ensures least { steps.old ≤ steps.new }
-    ensures most { steps.new ≤ steps.old + length written.now }
-{
-    match earlier.take() {
-        None => bind_members(alloc, table, tokens, written, steps),
-        Some(earlier) => bind_by(alloc, table, tokens, written, earlier, steps),
-    }
-}
 
 // What is known of sources that read as units, have these tokens, and this table.
 fn bind_all<L: Ledger>(
@@ -123,6 +57,7 @@ fn bind_all<L: Ledger>(
     requires table { IsTableOf sources.now table }
     requires earlier { IsMaybeEarlier sources.now earlier.old }
     ensures analysed { IfOk result (IsAnalysed sources.now) }
+    ensures left { IfOk result (IsNotLost earlier.old earlier.new) }
     ensures cost { CostsBinding sources.now steps.old steps.new }
 {
     text_has_one_reading();
@@ -145,7 +80,11 @@ fn bind_all<L: Ledger>(
     );
     forget_written(written);
     match bound {
-        Ok(members) => Ok(Analysed::Program(Analysis { table, members })),
+        Ok(made) => {
+            let (members, former) = made;
+            let analysis = Analysis { table, members };
+            Ok(Analysed::Program { analysis, former })
+        }
         Err(error) => {
             forget_table(table);
             Err(error)
@@ -167,6 +106,7 @@ fn bind_same<L: Ledger>(
     requires table { IsTableOf sources.now earlier.analysis.table }
     requires earlier { IsEarlier sources.now earlier }
     ensures analysed { IfOk result (IsAnalysed sources.now) }
+    ensures left { IfOk result (IsNotLost (Some earlier) None) }
     ensures cost { CostsBinding sources.now steps.old steps.new }
 {
     text_has_one_reading();
@@ -192,7 +132,18 @@ fn bind_same<L: Ledger>(
     let bound = rebind_members(alloc, program, before, steps);
     forget_written(written);
     match bound {
-        Ok(members) => Ok(Analysed::Program(Analysis { table, members })),
+        Ok(made) => {
+            let (members, before) = made;
+            let former = FormerAnalysis {
+                table: None,
+                members: before,
+                stays,
+            };
+            Ok(Analysed::Program {
+                analysis: Analysis { table, members },
+                former: Some(former),
+            })
+        }
         Err(error) => {
             forget_table(table);
             Err(error)
@@ -214,6 +165,7 @@ fn analyse_units<L: Ledger>(
     requires lexed { AreLexed (texts_of sources.now) files.now.tokens.now }
     requires earlier { IsMaybeEarlier sources.now earlier.old }
     ensures analysed { IfOk result (IsAnalysed sources.now) }
+    ensures left { IfOk result (IsNotLost earlier.old earlier.new) }
     ensures cost { CostsBinding sources.now steps.old steps.new }
 {
     text_has_one_reading();
@@ -253,7 +205,9 @@ fn file_fault(sources: &Sources, readings: &Readings) -> Option<SourceFault>
 ///
 /// `known` may be a table that was made before: it is taken where it has exactly the rows of these
 /// sources. `earlier` may be what was analysed of other sources: of the members of files that stay,
-/// those keep what is bound of them that refer to nothing by a name in which the tables differ.
+/// those keep what is bound of them that refer to nothing by a name in which the tables differ. It
+/// isn't lost: behind a fault it is there as it was, and else it can be had back
+/// ([`FormerAnalysis`]).
 pub fn analyse<L: Ledger>(
     alloc: Global,
     sources: &Sources,
@@ -266,6 +220,7 @@ pub fn analyse<L: Ledger>(
     requires readings { AreReadings (texts_of sources.now) readings.now }
     requires earlier { IsMaybeEarlier sources.now earlier.old }
     ensures analysed { IfOk result (IsAnalysed sources.now) }
+    ensures left { IfOk result (IsNotLost earlier.old earlier.new) }
     ensures cost { CostsBinding sources.now steps.old steps.new }
 {
     match file_fault(sources, readings) {
@@ -300,6 +255,7 @@ pub fn analyse_with<L: Ledger>(
     requires table { IsTableOf sources.now table }
     requires earlier { IsMaybeEarlier sources.now earlier.old }
     ensures analysed { IfOk result (IsAnalysed sources.now) }
+    ensures left { IfOk result (IsNotLost earlier.old earlier.new) }
     ensures cost { CostsBinding sources.now steps.old steps.new }
 {
     match file_fault(sources, readings) {
@@ -322,28 +278,55 @@ pub fn analyse_with<L: Ledger>(
     }
 }
 
-/// What is known of sources, or their first fault, where their table is that of the earlier sources
-/// unless one of them has a fault by itself.
+// What is known of sources that read as units, and have the table of the earlier ones, if what was
+// analysed of these is given.
+fn analyse_again<L: Ledger>(
+    alloc: Global,
+    sources: &Sources,
+    files: &ReadFiles<'_>,
+    earlier: &mut Option<EarlierAnalysis>,
+    steps: &mut Steps<L>,
+) -> Result<Analysed, AllocError>
+    requires valid { AreSources sources.now }
+    requires read { AreRead sources.now (map unit_of files.now.units.now) files.now.words.now }
+    requires lexed { AreLexed (texts_of sources.now) files.now.tokens.now }
+    requires earlier { IsMaybeEarlier sources.now earlier.old }
+    requires table { HaveSameTable sources.now earlier.old }
+    ensures analysed { IfOk result (IsAnalysed sources.now) }
+    ensures left { IfOk result (IsNotLost earlier.old earlier.new) }
+    ensures cost { CostsBinding sources.now steps.old steps.new }
+{
+    match earlier.take() {
+        Some(earlier) => bind_same(alloc, sources, files, earlier, steps),
+        None => {
+            let mut known = None;
+            let analysed = analyse_units(alloc, sources, files, &mut known, earlier, steps);
+            forget_known(known);
+            analysed
+        }
+    }
+}
+
+/// What is known of sources, or their first fault, where their table is that of the earlier
+/// sources, if these are given, unless one of them has a fault by itself.
 pub fn analyse_same<L: Ledger>(
     alloc: Global,
     sources: &Sources,
     readings: &Readings,
-    earlier: EarlierAnalysis,
+    earlier: &mut Option<EarlierAnalysis>,
     steps: &mut Steps<L>,
 ) -> Result<Analysed, AllocError>
     requires valid { AreSources sources.now }
     requires readings { AreReadings (texts_of sources.now) readings.now }
-    requires earlier { IsEarlier sources.now earlier }
-    requires table { IsTableOf sources.now earlier.analysis.table }
+    requires earlier { IsMaybeEarlier sources.now earlier.old }
+    requires table { HaveSameTable sources.now earlier.old }
     ensures analysed { IfOk result (IsAnalysed sources.now) }
+    ensures left { IfOk result (IsNotLost earlier.old earlier.new) }
     ensures cost { CostsBinding sources.now steps.old steps.new }
 {
     match file_fault(sources, readings) {
-        Some(fault) => {
-            drop(earlier);
-            Ok(Analysed::Fault(fault))
-        }
-        None => bind_same(
+        Some(fault) => Ok(Analysed::Fault(fault)),
+        None => analyse_again(
             alloc,
             sources,
             &ReadFiles {
@@ -366,6 +349,8 @@ pub fn forget_known(known: Option<Table>) {
 }
 
 fn forget_earlier(_earlier: Option<EarlierAnalysis>) {}
+
+fn forget_former(_former: Option<FormerAnalysis>) {}
 
 // What is known of sources, of which nothing is known before.
 fn analyse_anew<L: Ledger>(
@@ -402,6 +387,8 @@ pub fn keep_analysis<L: Ledger>(
     ensures kept { IsKeptAnalysis sources.now kept.new }
     ensures found { IfOk result (λ fault.
         MatchOption fault (IsFilled kept.new) (IsSourceFault sources.now)) }
+    // Where all is kept, nothing is bound.
+    ensures again { IsFilled kept.old → steps.new ≡ steps.old }
     ensures cost { CostsBinding sources.now steps.old steps.new }
 {
     if kept.is_some() {
@@ -409,7 +396,8 @@ pub fn keep_analysis<L: Ledger>(
     }
     match analyse_anew(alloc, sources, readings, steps)? {
         Analysed::Fault(fault) => Ok(Some(fault)),
-        Analysed::Program(analysis) => {
+        Analysed::Program { analysis, former } => {
+            forget_former(former);
             *kept = Some(analysis);
             Ok(None)
         }

@@ -3,7 +3,7 @@ use Rattle.std.proofs.Common.{◌≡◌, ◌⊎◌, ◌<◌, ◌≤◌, ℕ, tru
 use Rattle.jr_cover.specs.Ways.{Way, pass, row, fork, turns, Edge}
 use Rattle.jr_cover.proofs.FlowLaws.{In, flow_is}
 use Rattle.jr_unused_locals.specs.Agreement.{here, in_body, Comes, reads_here, onward, InPiece}
-use Rattle.jr_unused_locals.specs.UsedCases.{Use, read_site, write_site, other_site, reads_in, writes_in, piece, IsUsedIn, IsUsedBy, condition, body, loop_way, IsUsedOutside, UsedCases}
+use Rattle.jr_unused_locals.specs.UsedCases.{Use, read_site, write_site, other_site, reads_in, writes_in, piece, IsUsedIn, IsUsedBy, condition, body, loop_way, IsUsedOutside, IsReadFirstIn, StaysIn, UsedCases}
 
 no_truth : false ≡ true → ⊥
 no_truth e = cc
@@ -110,6 +110,32 @@ module _ (i j : ℕ) (h : InPiece 2 body i) (out : InPiece 2 body j → ⊥) (c 
 not_outside : IsUsedOutside loop_way 2 body → ⊥
 not_outside u = none_left u.0 u.1 u.2 u.3 u.5 (((flow_is 0 loop_way).edges u.0 u.1).back u.4)
 
+-- ---- a list alone
+
+abbrev written : Way Use
+written = row write_site read_site
+
+not_first : IsReadFirstIn written → ⊥
+not_first r = ⊎_elim (λ e. never_zero (subst (λ n. Comes (reads_in written) (writes_in written) (Edge 0 written) n) e r.comes)) (λ x. x.0) r.begins
+  where
+    never_zero : Comes (reads_in written) (writes_in written) (Edge 0 written) 0 → ⊥
+    never_zero (reads_here j e) = no_truth e
+    never_zero (onward j k w e c) = no_falsehood w
+
+-- `b` is 0, the write 1, the read 2
+past_a_branch : IsReadFirstIn (row (row other_site (fork write_site pass)) read_site)
+past_a_branch = record {
+  at = 0;
+  begins = inl (inl refl);
+  comes = onward 0 2 refl (inr (inr (inr (inr tt, refl), refl))) (reads_here 2 refl);
+}
+
+always_written : StaysIn piece → ⊥
+always_written p = ⊎_elim (λ e. no_falsehood (subst (λ n. writes_in piece n ≡ false) e p.unwritten)) (λ x. x.0) p.ends
+
+staying : StaysIn (row other_site (fork write_site pass))
+staying = record { from = 0; to = 0; begins = inl refl; ends = inr (inr tt, refl); path = inl refl; unwritten = refl }
+
 pub used_cases : UsedCases
 used_cases = record {
   read_behind = read_behind;
@@ -118,4 +144,8 @@ used_cases = record {
   written_in_a_loop = loop_passed;
   round_a_loop = round_loop;
   not_by_a_site_outside = not_outside;
+  not_first_behind_a_write = not_first;
+  first_past_a_branch = past_a_branch;
+  written_on_each_path = always_written;
+  may_stay = staying;
 }

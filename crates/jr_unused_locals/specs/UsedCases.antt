@@ -1,5 +1,5 @@
--- When a local is used behind a piece: small ways, each with its code, in which the piece stands in
--- brackets and x is the local.
+-- When a local is used behind a piece, and when a list reads it first: small ways, each with its
+-- code, in which the piece stands in brackets and x is the local.
 use Rattle.std.specs.Prelude.{ℕ, zero, suc, Bool, true, false, not, List, [], ◌∷◌, Option, Some, None}
 use Rattle.jr_cover.specs.Ways.{Way, pass, one, row, fork, turns, sites_of, Edge}
 use Rattle.jr_unused_locals.specs.Agreement.{
@@ -11,6 +11,7 @@ use Rattle.jr_unused_locals.specs.Agreement.{
   InPiece,
   Used,
 }
+use Rattle.jr_unused_locals.specs.Beginnings.{ReadFirst, UnwrittenPath}
 
 -- a site reads x, writes it, or does neither
 abbrev pub Use : Type 0
@@ -71,6 +72,14 @@ abbrev pub IsUsedOutside : (m : Way Use) (a : ℕ) (p : Way Use) → Type 0
 IsUsedOutside m a p = (i j : ℕ) × InPiece a p i × (InPiece a p j → ⊥) × Edge 0 m i j
     × Comes (reads_in m) (writes_in m) (Edge 0 m) j
 
+-- ---- a list alone
+
+abbrev pub IsReadFirstIn : Way Use → Type 0
+IsReadFirstIn w = ReadFirst (reads_in w) (writes_in w) w
+
+abbrev pub StaysIn : Way Use → Type 0
+StaysIn w = UnwrittenPath (writes_in w) w
+
 pub record UsedCases : Type 0 where
   -- `[x=f;]return x;`
   pub read_behind : IsUsedBy read_site
@@ -83,3 +92,9 @@ pub record UsedCases : Type 0 where
   -- in the loop above the way back meets no site, and reads in the piece
   pub round_a_loop : IsUsedIn loop_way 2 body (in_body 0 None condition body here)
   pub not_by_a_site_outside : IsUsedOutside loop_way 2 body → ⊥
+  -- `x=2;return x;`, `if(b)x=2;return x;`
+  pub not_first_behind_a_write : IsReadFirstIn (row write_site read_site) → ⊥
+  pub first_past_a_branch : IsReadFirstIn (row (row other_site (fork write_site pass)) read_site)
+  -- `x=f;`, `if(b)x=2;`
+  pub written_on_each_path : StaysIn piece → ⊥
+  pub may_stay : StaysIn (row other_site (fork write_site pass))

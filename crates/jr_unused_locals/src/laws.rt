@@ -55,7 +55,7 @@ pub fn unused_locals_play_no_part<C, F, M, N, L, A>()
 {}
 
 /// Small pieces behind which a local is used, and some behind which it isn't: in one branch, in a
-/// loop, round a loop whose condition is passed.
+/// loop, round a loop whose condition is passed; lists that read it first, and some that don't.
 pub fn used_cases()
     ensures { UsedCases }
 {}

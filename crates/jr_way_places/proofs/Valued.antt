@@ -61,7 +61,7 @@ module _ (rows : List Row) where
   no_variable s name k (inl h) = no_local h.0 k h.2
   no_variable s name k (inr h) = by_name h.1.0 (class_number rows s.class) s.is_static name k h.1.1 h.1.2
 
-  no_field_in : (s : Scope) (of : ClassKey) (name : List ℕ) (k : ClassKey) → FindsFieldIn rows s of name (one (class_decl k)) → ⊥
+  pub no_field_in : (s : Scope) (of : ClassKey) (name : List ℕ) (k : ClassKey) → FindsFieldIn rows s of name (one (class_decl k)) → ⊥
   no_field_in s of name k h = in_class h.0 (class_number rows s.class) (class_number rows of) name k h.1 h.2
 
   module _ {A : Type 0} (each : EachHasOne rows) (c : Context) (bound : IsBound A rows c) where

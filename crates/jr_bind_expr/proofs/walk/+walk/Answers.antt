@@ -271,27 +271,27 @@ walk_parts-class_literal-requires-clause-fits g t c =
     let f = subst (λ (e : tree.Exp g.row.A.Denot). FitsExp B F base e) (ap (expr_kind m) c.in-ClassLit.is) c.requires.fits in
     subst (λ (n : ℕ). FitsType B F n (type_of c.in-ClassLit.ty)) (sym start) f.1
 
-pub walk_parts-written_type-requires-clause-fits : goal.walk_parts-written_type-requires-clause-fits
+pub walk_parts-boxed_type-requires-clause-fits : goal.walk_parts-boxed_type-requires-clause-fits
 unfolding exp_size exps_size target_size expr_kind expr_row held_target FitsExp FitsTarget FitsExps
-walk_parts-written_type-requires-clause-fits g t c =
+walk_parts-boxed_type-requires-clause-fits g t c =
     let B = λ (m : g.row.A.Denot) (b : ℕ). (g.A.Mark.span_from m b).from in
     let F = g.A.Mark.fits_at in
     let base = c.args.base in
     let m = c.args.of.now.mark in
     let start : c.span-at.result.from ≡ B m base = ap (λ (z : Span). z.from) c.span-at.ensures in
     let f = subst (λ (e : tree.Exp g.row.A.Denot). FitsExp B F base e) (ap (expr_kind m) c.in-New.is ∙ expr_kind-New _ m c.in-New.ty c.in-New.args) c.requires.fits in
-    subst (λ (n : ℕ). FitsType B F n (type_of c.in-New.ty)) (sym start) f.1
+    subst (λ (n : ℕ). FitsType B F n (type_of c.in-New.ty.value)) (sym start) f.1
 
-pub walk_parts-written_type-requires-in-Cast-clause-fits : goal.walk_parts-written_type-requires-in-Cast-clause-fits
+pub walk_parts-boxed_type-requires-in-Cast-clause-fits : goal.walk_parts-boxed_type-requires-in-Cast-clause-fits
 unfolding exp_size exps_size target_size expr_kind expr_row held_target FitsExp FitsTarget FitsExps
-walk_parts-written_type-requires-in-Cast-clause-fits g t c =
+walk_parts-boxed_type-requires-in-Cast-clause-fits g t c =
     let B = λ (m : g.row.A.Denot) (b : ℕ). (g.A.Mark.span_from m b).from in
     let F = g.A.Mark.fits_at in
     let base = c.args.base in
     let m = c.args.of.now.mark in
     let start : c.span-at.result.from ≡ B m base = ap (λ (z : Span). z.from) c.span-at.ensures in
     let f = subst (λ (e : tree.Exp g.row.A.Denot). FitsExp B F base e) (ap (expr_kind m) c.in-Cast.is) c.requires.fits in
-    subst (λ (n : ℕ). FitsType B F n (type_of c.in-Cast.ty)) (sym start) f.1
+    subst (λ (n : ℕ). FitsType B F n (type_of c.in-Cast.ty.value)) (sym start) f.1
 
 pub walk_parts-returns-in-Int-clause-means : goal.walk_parts-returns-in-Int-clause-means
 unfolding expr_kind expr_row held_target
@@ -673,7 +673,7 @@ walk_parts-returns-in_ok-of-in-Cast-clause-means g t c =
     let p = c.args.place.now in
     let knows = c.requires.knows in
     let ctx = context_of p in
-    IfOk-weaker c.cast.result _ _ (λ x h. subst (λ e. Means B rows ctx base e x) (sym (ap (expr_kind m) c.in-Cast.is)) (subst (λ y. Means B rows ctx base (tree.cast m (type_of c.in-Cast.ty) (expr_of c.in-Cast.part.value)) y) (sym h) (meant.cast_means B rows are p knows base m c.span-at.result.from start (expr_of c.in-Cast.part.value) c.in_ok-of-in-Cast.of (subst (λ n. Means B rows ctx n (expr_of c.in-Cast.part.value) c.in_ok-of-in-Cast.of) start (subst (λ (z : Expr g.row.A.Denot). Means B rows ctx c.span-at.result.from (expr_of z) c.in_ok-of-in-Cast.of) c.deref-in-Cast.ensures c.in_ok-of-in-Cast.ensures.means)) (type_of c.in-Cast.ty) c.in_ok-kind-in-Cast.kind c.in_ok-kind-in-Cast.ensures.kind))) c.cast.ensures.says
+    IfOk-weaker c.cast.result _ _ (λ x h. subst (λ e. Means B rows ctx base e x) (sym (ap (expr_kind m) c.in-Cast.is)) (subst (λ y. Means B rows ctx base (tree.cast m (type_of c.in-Cast.ty.value) (expr_of c.in-Cast.part.value)) y) (sym h) (meant.cast_means B rows are p knows base m c.span-at.result.from start (expr_of c.in-Cast.part.value) c.in_ok-of-in-Cast.of (subst (λ n. Means B rows ctx n (expr_of c.in-Cast.part.value) c.in_ok-of-in-Cast.of) start (subst (λ (z : Expr g.row.A.Denot). Means B rows ctx c.span-at.result.from (expr_of z) c.in_ok-of-in-Cast.of) c.deref-in-Cast.ensures c.in_ok-of-in-Cast.ensures.means)) (type_of c.in-Cast.ty.value) c.in_ok-kind-in-Cast.kind c.in_ok-kind-in-Cast.ensures.kind))) c.cast.ensures.says
 
 pub walk_parts-returns-in_ok-of-in-Cast-clause-notes : goal.walk_parts-returns-in_ok-of-in-Cast-clause-notes
 unfolding expr_kind expr_row held_target
@@ -690,7 +690,7 @@ walk_parts-returns-in_ok-of-in-Cast-clause-notes g t c =
     let k = member_of p in
     let r = role_of c.args.role in
     let old = notes_of rows k c.args.log.now.items in
-    IfOk-weaker c.cast.result _ _ (λ x h. subst (λ e. Adds old (walks.notes_of B rows ctx r base e) (notes_of rows k c.cast.new.log.items)) (sym (ap (expr_kind m) c.in-Cast.is)) (noted.cast_noted B rows are p knows r base m c.span-at.result.from start (expr_of c.in-Cast.part.value) c.in_ok-of-in-Cast.of (subst (λ n. Means B rows ctx n (expr_of c.in-Cast.part.value) c.in_ok-of-in-Cast.of) start (subst (λ (z : Expr g.row.A.Denot). Means B rows ctx c.span-at.result.from (expr_of z) c.in_ok-of-in-Cast.of) c.deref-in-Cast.ensures c.in_ok-of-in-Cast.ensures.means)) (type_of c.in-Cast.ty) c.in_ok-kind-in-Cast.kind c.in_ok-kind-in-Cast.ensures.kind old (notes_of rows k c.written_type-in-Cast.new.log.items) (notes_of rows k c.walk_expr-in-Cast.new.log.items) (notes_of rows k c.cast.new.log.items) c.in_ok-kind-in-Cast.ensures.notes (subst (λ (xs : List Note). Adds (notes_of rows k c.written_type-in-Cast.new.log.items) xs (notes_of rows k c.walk_expr-in-Cast.new.log.items)) (λ i. walks.notes_of B rows ctx value (start i) (expr_of (c.deref-in-Cast.ensures i))) c.in_ok-of-in-Cast.ensures.notes) h)) c.cast.ensures.notes
+    IfOk-weaker c.cast.result _ _ (λ x h. subst (λ e. Adds old (walks.notes_of B rows ctx r base e) (notes_of rows k c.cast.new.log.items)) (sym (ap (expr_kind m) c.in-Cast.is)) (noted.cast_noted B rows are p knows r base m c.span-at.result.from start (expr_of c.in-Cast.part.value) c.in_ok-of-in-Cast.of (subst (λ n. Means B rows ctx n (expr_of c.in-Cast.part.value) c.in_ok-of-in-Cast.of) start (subst (λ (z : Expr g.row.A.Denot). Means B rows ctx c.span-at.result.from (expr_of z) c.in_ok-of-in-Cast.of) c.deref-in-Cast.ensures c.in_ok-of-in-Cast.ensures.means)) (type_of c.in-Cast.ty.value) c.in_ok-kind-in-Cast.kind c.in_ok-kind-in-Cast.ensures.kind old (notes_of rows k c.boxed_type-in-Cast.new.log.items) (notes_of rows k c.walk_expr-in-Cast.new.log.items) (notes_of rows k c.cast.new.log.items) c.in_ok-kind-in-Cast.ensures.notes (subst (λ (xs : List Note). Adds (notes_of rows k c.boxed_type-in-Cast.new.log.items) xs (notes_of rows k c.walk_expr-in-Cast.new.log.items)) (λ i. walks.notes_of B rows ctx value (start i) (expr_of (c.deref-in-Cast.ensures i))) c.in_ok-of-in-Cast.ensures.notes) h)) c.cast.ensures.notes
 
 pub walk_parts-returns-in_ok-right-in-Binary-clause-means : goal.walk_parts-returns-in_ok-right-in-Binary-clause-means
 unfolding expr_kind expr_row held_target
@@ -859,7 +859,7 @@ walk_parts-returns-in_ok-kinds-in-New-clause-means g t c =
     let p = c.args.place.now in
     let knows = c.requires.knows in
     let ctx = context_of p in
-    IfOk-weaker c.create.result _ _ (λ x h. subst (λ e. Means B rows ctx base e x) (sym (ap (expr_kind m) c.in-New.is ∙ expr_kind-New _ m c.in-New.ty c.in-New.args)) (subst (λ y. Means B rows ctx base (tree.create m (type_of c.in-New.ty) (exprs_of c.in-New.args.items)) y) (sym h) (meant.create_means B rows are p knows base m (type_of c.in-New.ty) (exprs_of c.in-New.args.items) c.span-at.result.from c.in_ok-kind-in-New.kind (shown rows (arm.ctor_answer rows p.class (class_in c.in_ok-kind-in-New.kind) (kinds_of c.in_ok-kinds-in-New.kinds))) start c.in_ok-kind-in-New.ensures.kind (meant.ctor_is B rows are p knows (type_of c.in-New.ty) c.in_ok-kind-in-New.kind c.in_ok-kind-in-New.ensures.kind (exprs_of c.in-New.args.items) (kinds_of c.in_ok-kinds-in-New.kinds) (c.in_ok-kinds-in-New.ensures.kinds ∙ (λ i. option_map (map (kind_of rows)) (types_of rows ctx (exprs_of (c.deref-in-New.ensures.value i))))))))) c.create.ensures.says
+    IfOk-weaker c.create.result _ _ (λ x h. subst (λ e. Means B rows ctx base e x) (sym (ap (expr_kind m) c.in-New.is ∙ expr_kind-New _ m c.in-New.ty c.in-New.args)) (subst (λ y. Means B rows ctx base (tree.create m (type_of c.in-New.ty.value) (exprs_of c.in-New.args.items)) y) (sym h) (meant.create_means B rows are p knows base m (type_of c.in-New.ty.value) (exprs_of c.in-New.args.items) c.span-at.result.from c.in_ok-kind-in-New.kind (shown rows (arm.ctor_answer rows p.class (class_in c.in_ok-kind-in-New.kind) (kinds_of c.in_ok-kinds-in-New.kinds))) start c.in_ok-kind-in-New.ensures.kind (meant.ctor_is B rows are p knows (type_of c.in-New.ty.value) c.in_ok-kind-in-New.kind c.in_ok-kind-in-New.ensures.kind (exprs_of c.in-New.args.items) (kinds_of c.in_ok-kinds-in-New.kinds) (c.in_ok-kinds-in-New.ensures.kinds ∙ (λ i. option_map (map (kind_of rows)) (types_of rows ctx (exprs_of (c.deref-in-New.ensures.value i))))))))) c.create.ensures.says
 
 pub walk_parts-returns-in_ok-kinds-in-New-clause-notes : goal.walk_parts-returns-in_ok-kinds-in-New-clause-notes
 unfolding expr_kind expr_row held_target
@@ -876,7 +876,7 @@ walk_parts-returns-in_ok-kinds-in-New-clause-notes g t c =
     let k = member_of p in
     let r = role_of c.args.role in
     let old = notes_of rows k c.args.log.now.items in
-    IfOk-weaker c.create.result _ _ (λ x h. subst (λ e. Adds old (walks.notes_of B rows ctx r base e) (notes_of rows k c.create.new.log.items)) (sym (ap (expr_kind m) c.in-New.is ∙ expr_kind-New _ m c.in-New.ty c.in-New.args)) (noted.create_noted B rows are p knows r base m c.span-at.result.from start (type_of c.in-New.ty) (exprs_of c.in-New.args.items) (shown rows (arm.ctor_answer rows p.class (class_in c.in_ok-kind-in-New.kind) (kinds_of c.in_ok-kinds-in-New.kinds))) (meant.ctor_is B rows are p knows (type_of c.in-New.ty) c.in_ok-kind-in-New.kind c.in_ok-kind-in-New.ensures.kind (exprs_of c.in-New.args.items) (kinds_of c.in_ok-kinds-in-New.kinds) (c.in_ok-kinds-in-New.ensures.kinds ∙ (λ i. option_map (map (kind_of rows)) (types_of rows ctx (exprs_of (c.deref-in-New.ensures.value i)))))) old (notes_of rows k c.written_type.new.log.items) (notes_of rows k c.walk_args-in-New.new.log.items) (notes_of rows k c.create.new.log.items) c.in_ok-kind-in-New.ensures.notes (subst (λ (xs : List Note). Adds (notes_of rows k c.written_type.new.log.items) xs (notes_of rows k c.walk_args-in-New.new.log.items)) (λ i. walks.args_notes B rows ctx (start i) (exprs_of (c.deref-in-New.ensures.value i))) c.in_ok-kinds-in-New.ensures.notes) h)) c.create.ensures.notes
+    IfOk-weaker c.create.result _ _ (λ x h. subst (λ e. Adds old (walks.notes_of B rows ctx r base e) (notes_of rows k c.create.new.log.items)) (sym (ap (expr_kind m) c.in-New.is ∙ expr_kind-New _ m c.in-New.ty c.in-New.args)) (noted.create_noted B rows are p knows r base m c.span-at.result.from start (type_of c.in-New.ty.value) (exprs_of c.in-New.args.items) (shown rows (arm.ctor_answer rows p.class (class_in c.in_ok-kind-in-New.kind) (kinds_of c.in_ok-kinds-in-New.kinds))) (meant.ctor_is B rows are p knows (type_of c.in-New.ty.value) c.in_ok-kind-in-New.kind c.in_ok-kind-in-New.ensures.kind (exprs_of c.in-New.args.items) (kinds_of c.in_ok-kinds-in-New.kinds) (c.in_ok-kinds-in-New.ensures.kinds ∙ (λ i. option_map (map (kind_of rows)) (types_of rows ctx (exprs_of (c.deref-in-New.ensures.value i)))))) old (notes_of rows k c.boxed_type.new.log.items) (notes_of rows k c.walk_args-in-New.new.log.items) (notes_of rows k c.create.new.log.items) c.in_ok-kind-in-New.ensures.notes (subst (λ (xs : List Note). Adds (notes_of rows k c.boxed_type.new.log.items) xs (notes_of rows k c.walk_args-in-New.new.log.items)) (λ i. walks.args_notes B rows ctx (start i) (exprs_of (c.deref-in-New.ensures.value i))) c.in_ok-kinds-in-New.ensures.notes) h)) c.create.ensures.notes
 
 pub walk_target-walk_expr-requires : goal.walk_target-walk_expr-requires
 unfolding exp_size exps_size target_size expr_kind expr_row held_target FitsExp FitsTarget FitsExps

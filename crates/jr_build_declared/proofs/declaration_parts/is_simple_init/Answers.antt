@@ -1,5 +1,6 @@
 use Rattle.std.proofs.Common.{◌≡◌, ℕ, List, [], ◌∷◌, length, Bool, true, false, Vec, Global, ◌==◌, ap, sym, ◌∙◌, refl, arith}
 use Rattle.std.specs.Prelude.{◌&&◌}
+use Rattle.std.specs.declared.boxed.Box.{Box}
 use Rattle.jr_ast.specs.declared.exprs.Expr.{Expr}
 use Rattle.jr_ast.specs.declared.exprs.ExprKind as expr
 use Rattle.jr_ast.specs.declared.parts.TypeRef.{TypeRef}
@@ -9,7 +10,7 @@ use Rattle.jr_table.specs.DeclaredItems.{is_simple, is_object, has_none}
 use Rattle.jr_build_declared.specs.Fitting.{begins_by}
 use Rattle.jr_build_declared.proofs.declaration_parts.is_simple_init.Goals as goal
 
-created : {A : Type 0} (begins : A → ℕ → ℕ) (m : A) (k : expr.ExprKind A) (t : TypeRef A) (args : Vec (Expr A) Global) (a b : Bool) → k ≡ expr.New t args → a ≡ is_object begins (type_of t) → b ≡ has_none begins (exprs_of args.items)
+created : {A : Type 0} (begins : A → ℕ → ℕ) (m : A) (k : expr.ExprKind A) (t : Box (TypeRef A) Global) (args : Vec (Expr A) Global) (a b : Bool) → k ≡ expr.New t args → a ≡ is_object begins (type_of t.value) → b ≡ has_none begins (exprs_of args.items)
     → a && b ≡ is_simple begins (expr_kind m k)
 created {A} begins m k t args a b is e f = (λ i. e i && f i) ∙ sym (ap (is_simple begins) (ap (expr_kind m) is ∙ expr_kind-New A m t args))
 

@@ -1,6 +1,6 @@
-use Rattle.std.proofs.Common.{List, [], ◌∷◌, ◌++◌, map, subst, sym, ap}
-use Rattle.std.specs.Prelude.{slice_set}
+use Rattle.std.proofs.Common.{List, [], ◌∷◌, ◌++◌, map, subst, sym}
 use Rattle.std.specs.List.{AllZip}
+use Rattle.std.proofs.lemmas.Result.{on_ok_weaker}
 use Rattle.jr_members.specs.PartView.{written_of}
 use Rattle.jr_program.specs.Members.{CanBind, EachOf, IsEachBound}
 use Rattle.jr_cache.proofs.rebinding.bind_anew.Goals as goal
@@ -18,4 +18,4 @@ pub returns-clause-puts : goal.returns-clause-puts
 returns-clause-puts g c =
     let each : AllZip (IsEachBound c.args.table.now c.args.tokens.now) (written_of c.args.member.now ∷ []) c.in_ok-one.one.items = subst (λ ws. AllZip (IsEachBound c.args.table.now c.args.tokens.now) (map written_of ws) c.in_ok-one.one.items) c.from_ref.ensures.value c.in_ok-one.ensures.each in
     let bound = only_one (IsEachBound c.args.table.now c.args.tokens.now) (written_of c.args.member.now) c.pop.new.self.items c.in-Some.bound (subst (AllZip (IsEachBound c.args.table.now c.args.tokens.now) (written_of c.args.member.now ∷ [])) c.in-Some.ensures.items each) in
-    (c.in-Some.bound, bound, ap (slice_set c.args.bounds.now.items c.args.number) c.replace.ensures.after)
+    on_ok_weaker c.put.result (λ is. (c.in-Some.bound, bound, is)) c.put.ensures.bounds

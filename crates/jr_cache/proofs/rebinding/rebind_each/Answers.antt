@@ -1,4 +1,4 @@
-use Rattle.std.proofs.Common.{◌≡◌, ◌<◌, ◌≤◌, ◌+◌, length, arith}
+use Rattle.std.proofs.Common.{◌≡◌, ◌<◌, ◌≤◌, ◌+◌, length, ◌∙◌, arith}
 use Rattle.jr_members.specs.PartView.{written_of}
 use Rattle.jr_mentions.specs.ApartView.{names_in}
 use Rattle.jr_program.specs.Members.{CanBind}
@@ -23,7 +23,11 @@ loop-number-preserved g c =
     let one = c.rebind_one.ensures.most in (
       step written_of c.args.program.now.written.now c.args.program.now.table.now c.args.program.now.tokens.now (names_in c.args.names.now) c.args.program.now.stays.now c.loop-number.number _ _ _ c.index-written-number.result c.requires.count c.loop-number-test.true c.index-written-number.is c.loop-number.invariant.0 c.in_ok-rebind_one.ensures.rebinds,
       (omega (arith, least, more), omega (arith, most, one)),
+      c.in_ok-rebind_one.ensures.back ∙ c.loop-number.invariant.2,
     )
 
 pub returns-clause-rebinds : goal.returns-clause-rebinds
 returns-clause-rebinds g c = last written_of c.args.program.now.written.now c.args.program.now.table.now c.args.program.now.tokens.now (names_in c.args.names.now) c.args.program.now.stays.now c.loop-number.number _ _ c.loop-number-test.false c.loop-number.invariant.0
+
+pub returns-clause-back : goal.returns-clause-back
+returns-clause-back g c = c.loop-number.invariant.2

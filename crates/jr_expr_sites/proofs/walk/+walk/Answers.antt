@@ -146,7 +146,7 @@ expr-create-requires g t c =
     let start : at ≡ (T m base).from = ap (λ (z : Span). z.from) c.span-at.ensures in
     let old = c.args.out.now.items in
     let same = c.deref-in-New.ensures.value in
-    λ κs o. (falls_one (exp_size (expr_of c.args.of.now)) _ _ 3 t (ap (λ (x : List (Expr g.row.A.Denot)). exps_size (exprs_of x)) same) (ap exp_size (ap (expr_kind m) c.in-New.is ∙ expr_kind-New _ m c.in-New.field-0 c.in-New.args)) c.decreases (omega arith), (o.0, (o.1, arm.create_fits T F base m at start (type_of c.in-New.field-0) c.deref-in-New.result.now c.in-New.args.items same (subst (λ (e : tree.Exp g.row.A.Denot). FitsExp (begins_by T) F base e) (ap (expr_kind m) c.in-New.is ∙ expr_kind-New _ m c.in-New.field-0 c.in-New.args) c.requires.fits))))
+    λ κs o. (falls_one (exp_size (expr_of c.args.of.now)) _ _ 3 t (ap (λ (x : List (Expr g.row.A.Denot)). exps_size (exprs_of x)) same) (ap exp_size (ap (expr_kind m) c.in-New.is ∙ expr_kind-New _ m c.in-New.field-0 c.in-New.args)) c.decreases (omega arith), (o.0, (o.1, arm.create_fits T F base m at start (type_of c.in-New.field-0.value) c.deref-in-New.result.now c.in-New.args.items same (subst (λ (e : tree.Exp g.row.A.Denot). FitsExp (begins_by T) F base e) (ap (expr_kind m) c.in-New.is ∙ expr_kind-New _ m c.in-New.field-0 c.in-New.args) c.requires.fits))))
 
 pub expr-cast-requires : goal.expr-cast-requires
 unfolding exp_size exps_size target_size expr_kind expr_row held_target spot_exp spot_exps
@@ -161,7 +161,7 @@ expr-cast-requires g t c =
     let start : at ≡ (T m base).from = ap (λ (z : Span). z.from) c.span-at.ensures in
     let old = c.args.out.now.items in
     let same = c.deref-in-Cast.ensures in
-    λ κs o. (falls_one (exp_size (expr_of c.args.of.now)) _ _ 2 t (ap (λ (x : Expr g.row.A.Denot). exp_size (expr_of x)) same) (ap exp_size (ap (expr_kind m) c.in-Cast.is)) c.decreases (omega arith), (o.0, (o.1, arm.cast_fits T F base m at start (type_of c.in-Cast.field-0) c.deref-in-Cast.result.now c.in-Cast.part.value same (subst (λ (e : tree.Exp g.row.A.Denot). FitsExp (begins_by T) F base e) (ap (expr_kind m) c.in-Cast.is) c.requires.fits))))
+    λ κs o. (falls_one (exp_size (expr_of c.args.of.now)) _ _ 2 t (ap (λ (x : Expr g.row.A.Denot). exp_size (expr_of x)) same) (ap exp_size (ap (expr_kind m) c.in-Cast.is)) c.decreases (omega arith), (o.0, (o.1, arm.cast_fits T F base m at start (type_of c.in-Cast.field-0.value) c.deref-in-Cast.result.now c.in-Cast.part.value same (subst (λ (e : tree.Exp g.row.A.Denot). FitsExp (begins_by T) F base e) (ap (expr_kind m) c.in-Cast.is) c.requires.fits))))
 
 pub expr-bump-requires : goal.expr-bump-requires
 unfolding exp_size exps_size target_size expr_kind expr_row held_target spot_exp spot_exps
@@ -407,7 +407,7 @@ expr-returns-in-New g t c =
     let start : at ≡ (T m base).from = ap (λ (z : Span). z.from) c.span-at.ensures in
     let old = c.args.out.now.items in
     let new = c.create.new.out.items in
-    on_ok_then c.create.result (λ h. subst (λ (e : tree.Exp g.row.A.Denot). Walked G (route.exp T path base e) old new) (sym (ap (expr_kind m) c.in-New.is ∙ expr_kind-New _ m c.in-New.field-0 c.in-New.args)) (arm.create_puts T G path base m at start old new (type_of c.in-New.field-0) c.deref-in-New.result.now c.in-New.args.items c.deref-in-New.ensures.value h)) (c.create.ensures)
+    on_ok_then c.create.result (λ h. subst (λ (e : tree.Exp g.row.A.Denot). Walked G (route.exp T path base e) old new) (sym (ap (expr_kind m) c.in-New.is ∙ expr_kind-New _ m c.in-New.field-0 c.in-New.args)) (arm.create_puts T G path base m at start old new (type_of c.in-New.field-0.value) c.deref-in-New.result.now c.in-New.args.items c.deref-in-New.ensures.value h)) (c.create.ensures)
 
 pub expr-returns-in-Paren : goal.expr-returns-in-Paren
 unfolding exp_size exps_size target_size expr_kind expr_row held_target spot_exp spot_exps
@@ -452,7 +452,7 @@ expr-returns-in-Cast g t c =
     let start : at ≡ (T m base).from = ap (λ (z : Span). z.from) c.span-at.ensures in
     let old = c.args.out.now.items in
     let new = c.cast.new.out.items in
-    on_ok_then c.cast.result (λ h. subst (λ (e : tree.Exp g.row.A.Denot). Walked G (route.exp T path base e) old new) (sym (ap (expr_kind m) c.in-Cast.is)) (arm.cast_puts T G path base m at start old new (type_of c.in-Cast.field-0) c.deref-in-Cast.result.now c.in-Cast.part.value c.deref-in-Cast.ensures h)) (c.cast.ensures)
+    on_ok_then c.cast.result (λ h. subst (λ (e : tree.Exp g.row.A.Denot). Walked G (route.exp T path base e) old new) (sym (ap (expr_kind m) c.in-Cast.is)) (arm.cast_puts T G path base m at start old new (type_of c.in-Cast.field-0.value) c.deref-in-Cast.result.now c.in-Cast.part.value c.deref-in-Cast.ensures h)) (c.cast.ensures)
 
 pub expr-returns-in-Bump : goal.expr-returns-in-Bump
 unfolding exp_size exps_size target_size expr_kind expr_row held_target spot_exp spot_exps

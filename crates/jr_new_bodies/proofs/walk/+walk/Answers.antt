@@ -187,7 +187,7 @@ expr-create-requires g t c =
     let start : at ≡ (T m base).from = ap (λ (z : Span). z.from) c.span-span.ensures in
     let ready = subst (λ (e : tree.Exp g.row.A.Denot). ExpReady T F h role path base e) (ap (expr_kind m) c.in-New.is ∙ expr_kind-New _ m c.in-New.ty c.in-New.args) c.requires.ready in
     let same = c.deref-in-New.ensures.value in
-    let n = arm.create_needs T F h role path base m at start (type_of c.in-New.ty) c.deref-in-New.result.now c.in-New.args.items same ready in
+    let n = arm.create_needs T F h role path base m at start (type_of c.in-New.ty.value) c.deref-in-New.result.now c.in-New.args.items same ready in
     λ κs o. (falls_one (exp_size (expr_of c.args.of.now)) _ _ 4 t (ap (λ (x : List (Expr g.row.A.Denot)). exps_size (exprs_of x)) same) (ap exp_size (ap (expr_kind m) c.in-New.is ∙ expr_kind-New _ m c.in-New.ty c.in-New.args)) c.decreases (omega arith), (o, (c.requires.known, (n.0, (n.1.0, (n.1.1.0, (n.1.1.1.0, n.1.1.1.1)))))))
 
 pub expr-operand-requires : goal.expr-operand-requires
@@ -252,7 +252,7 @@ expr-cast-requires g t c =
     let start : at ≡ (T m base).from = ap (λ (z : Span). z.from) c.span-span.ensures in
     let ready = subst (λ (e : tree.Exp g.row.A.Denot). ExpReady T F h role path base e) (ap (expr_kind m) c.in-Cast.is) c.requires.ready in
     let same = c.deref-in-Cast.ensures in
-    let n = arm.cast_needs T F h role path base m at start (type_of c.in-Cast.ty) c.deref-in-Cast.result.now c.in-Cast.part.value same ready in
+    let n = arm.cast_needs T F h role path base m at start (type_of c.in-Cast.ty.value) c.deref-in-Cast.result.now c.in-Cast.part.value same ready in
     λ κs o. (falls_one (exp_size (expr_of c.args.of.now)) _ _ 3 t (ap (λ (x : Expr g.row.A.Denot). exp_size (expr_of x)) same) (ap exp_size (ap (expr_kind m) c.in-Cast.is)) c.decreases (omega arith), (o, (c.requires.known, (n.0, (n.1.0, n.1.1)))))
 
 pub expr-pair-requires : goal.expr-pair-requires
@@ -499,7 +499,7 @@ expr-returns-in-New g t c =
     let start : at ≡ (T m base).from = ap (λ (z : Span). z.from) c.span-span.ensures in
     let old = gathered c.args.out.now in
     let new = gathered c.create.new.out in
-    IfOk-weaker c.create.result _ _ (λ _ x. subst (λ (e : tree.Exp g.row.A.Denot). ExpGathers T h role base e old new) (sym (ap (expr_kind m) c.in-New.is ∙ expr_kind-New _ m c.in-New.ty c.in-New.args)) (arm.create_returns T F h role path base m at start (type_of c.in-New.ty) c.deref-in-New.result.now c.in-New.args.items old new c.deref-in-New.ensures.value x)) c.create.ensures
+    IfOk-weaker c.create.result _ _ (λ _ x. subst (λ (e : tree.Exp g.row.A.Denot). ExpGathers T h role base e old new) (sym (ap (expr_kind m) c.in-New.is ∙ expr_kind-New _ m c.in-New.ty c.in-New.args)) (arm.create_returns T F h role path base m at start (type_of c.in-New.ty.value) c.deref-in-New.result.now c.in-New.args.items old new c.deref-in-New.ensures.value x)) c.create.ensures
 
 pub expr-returns-in-Cast : goal.expr-returns-in-Cast
 unfolding expr_kind expr_row held_target
@@ -515,7 +515,7 @@ expr-returns-in-Cast g t c =
     let start : at ≡ (T m base).from = ap (λ (z : Span). z.from) c.span-span.ensures in
     let old = gathered c.args.out.now in
     let new = gathered c.cast.new.out in
-    IfOk-weaker c.cast.result _ _ (λ _ x. subst (λ (e : tree.Exp g.row.A.Denot). ExpGathers T h role base e old new) (sym (ap (expr_kind m) c.in-Cast.is)) (arm.cast_returns T F h role path base m at start (type_of c.in-Cast.ty) c.deref-in-Cast.result.now c.in-Cast.part.value old new c.deref-in-Cast.ensures x)) c.cast.ensures
+    IfOk-weaker c.cast.result _ _ (λ _ x. subst (λ (e : tree.Exp g.row.A.Denot). ExpGathers T h role base e old new) (sym (ap (expr_kind m) c.in-Cast.is)) (arm.cast_returns T F h role path base m at start (type_of c.in-Cast.ty.value) c.deref-in-Cast.result.now c.in-Cast.part.value old new c.deref-in-Cast.ensures x)) c.cast.ensures
 
 pub expr-returns-in-Paren : goal.expr-returns-in-Paren
 unfolding expr_kind expr_row held_target
@@ -688,7 +688,7 @@ cast-operand-requires g t c =
 
 pub cast-returns : goal.cast-returns
 cast-returns g t c =
-    IfOk-weaker c.operand.result _ _ (λ _ x. (gathered c.written_type.new.out, c.in_ok-written_type.ensures, x)) c.operand.ensures
+    IfOk-weaker c.operand.result _ _ (λ _ x. (gathered c.boxed_type.new.out, c.in_ok-boxed_type.ensures, x)) c.operand.ensures
 
 pub operand_and_word-span-operand-requires : goal.operand_and_word-span-operand-requires
 operand_and_word-span-operand-requires g t c =
@@ -813,8 +813,8 @@ pub super_call-returns : goal.super_call-returns
 super_call-returns g t c =
     IfOk-weaker c.exprs.result _ _ (λ _ x. (gathered c.called_on_super.new.out, c.in_ok-called_on_super.ensures, x)) c.exprs.ensures
 
-pub create-creation_words-requires : goal.create-creation_words-requires
-create-creation_words-requires g t c =
+pub create-boxed_creation_words-requires : goal.create-boxed_creation_words-requires
+create-boxed_creation_words-requires g t c =
     record { known = c.requires.known; fits = c.requires.fits; created = c.requires.created; types = c.requires.ready.3; type_bound = c.requires.type_bound; bound = c.requires.bound }
 
 pub create-exprs-requires : goal.create-exprs-requires
@@ -823,7 +823,7 @@ create-exprs-requires g t c =
 
 pub create-returns : goal.create-returns
 create-returns g t c =
-    IfOk-weaker c.exprs.result _ _ (λ _ x. (gathered c.creation_words.new.out, c.in_ok-creation_words.ensures, x)) c.exprs.ensures
+    IfOk-weaker c.exprs.result _ _ (λ _ x. (gathered c.boxed_creation_words.new.out, c.in_ok-boxed_creation_words.ensures, x)) c.exprs.ensures
 
 pub exprs-operand-requires : goal.exprs-operand-requires
 exprs-operand-requires g t c =

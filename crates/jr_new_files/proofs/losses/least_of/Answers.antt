@@ -9,10 +9,10 @@ pub returns-clause-some : goal.returns-clause-some
 returns-clause-some c =
     let os = c.args.outputs.now in
     let o = get_or os c.args.file c.index-outputs-file.result in
-    IfSome_then c.least.result c.least.ensures.some (λ n h. least_there os c.args.file o n (slice_get-get_or os c.args.file c.index-outputs-file.result c.requires) (subst (λ ls. HasLeast (losses_in ls) n) c.as_slice.ensures.value h))
+    IfSome_then c.least_loss.result c.least_loss.ensures.some (λ n h. least_there os c.args.file o n (slice_get-get_or os c.args.file c.index-outputs-file.result c.requires) (subst (λ ls. HasLeast (losses_in ls) n) c.as_slice.ensures.value h))
 
 pub returns-clause-none : goal.returns-clause-none
 returns-clause-none c =
     let os = c.args.outputs.now in
     let o = get_or os c.args.file c.index-outputs-file.result in
-    none_weaker c.least.result (λ e. nothing_there os c.args.file o (slice_get-get_or os c.args.file c.index-outputs-file.result c.requires) (sym c.as_slice.ensures.value ∙ e)) c.least.ensures.none
+    none_weaker c.least_loss.result (λ e. nothing_there os c.args.file o (slice_get-get_or os c.args.file c.index-outputs-file.result c.requires) (sym c.as_slice.ensures.value ∙ e)) c.least_loss.ensures.none

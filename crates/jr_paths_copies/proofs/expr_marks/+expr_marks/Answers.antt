@@ -234,7 +234,7 @@ unfolding maps.map_exp maps.map_exps maps.map_target expr_kind expr_row held_tar
 expr-returns-in-New g t c =
     let at = c.in-New in
     let m = c.args.of.now.mark in
-    IfOk-weaker c.create.result _ _ (λ x made. with_part c.ty-in-New.result made c.ty-in-New.ensures (λ kind' made1 kind. with_part c.exprs-in-New.result made1 c.exprs-in-New.ensures (λ args' is args. λ h k agree.
+    IfOk-weaker c.create.result _ _ (λ x made. with_part c.boxed_ty.result made c.boxed_ty.ensures (λ kind' made1 kind. with_part c.exprs-in-New.result made1 c.exprs-in-New.ensures (λ args' is args. λ h k agree.
     let mark = mark_agrees agree c.mark_by-mark.ensures in
     ap (maps.map_exp h) is ∙ (λ i. tree.create (mark i) (kind h k agree i) ((args h k agree ∙ ap (λ xs. maps.map_exps k (exprs_of xs)) c.deref-in-New.ensures.value) i)) ∙ sym (ap (λ d. maps.map_exp k (expr_kind m d)) at.is ∙ ap (maps.map_exp k) (expr_kind-New _ m at.created at.args))))) c.create.ensures
 
@@ -252,7 +252,7 @@ unfolding maps.map_exp maps.map_exps maps.map_target expr_kind expr_row held_tar
 expr-returns-in-Cast g t c =
     let at = c.in-Cast in
     let m = c.args.of.now.mark in
-    IfOk-weaker c.cast.result _ _ (λ x made. with_part c.ty-in-Cast.result made c.ty-in-Cast.ensures (λ kind' made1 kind. with_part c.expr-in-Cast.result made1 c.expr-in-Cast.ensures (λ part' is part. λ h k agree.
+    IfOk-weaker c.cast.result _ _ (λ x made. with_part c.boxed_ty-in-Cast.result made c.boxed_ty-in-Cast.ensures (λ kind' made1 kind. with_part c.expr-in-Cast.result made1 c.expr-in-Cast.ensures (λ part' is part. λ h k agree.
     let mark = mark_agrees agree c.mark_by-mark.ensures in
     ap (maps.map_exp h) is ∙ (λ i. tree.cast (mark i) (kind h k agree i) ((part h k agree ∙ ap (λ y. maps.map_exp k (expr_of y)) c.deref-in-Cast.ensures) i)) ∙ sym (ap (λ d. maps.map_exp k (expr_kind m d)) at.is)))) c.cast.ensures
 

@@ -19,8 +19,9 @@ pub returns-in-New : goal.returns-in-New
 unfolding pure.exp_children
 returns-in-New g c =
     let m = c.args.expr.now.mark in
-    let first = pure.type (type_of c.in-New.ty) in
+    let first = pure.type (type_of c.in-New.ty.value) in
     c.then_exprs-in-New.ensures
+    ∙ ap (λ n. slice_get (n ∷ pure.exps (exprs_of c.deref-in-New.result.now)) c.args.number) c.type_node.ensures
     ∙ ap (λ xs. slice_get (first ∷ pure.exps (exprs_of xs)) c.args.number) c.deref-in-New.ensures.value
     ∙ sym (ap (λ e. slice_get (pure.exp_children e) c.args.number) (ap (expr_kind m) c.in-New.is ∙ expr_kind-New _ m c.in-New.ty c.in-New.args))
 

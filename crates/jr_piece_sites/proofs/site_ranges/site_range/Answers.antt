@@ -13,7 +13,7 @@ use Rattle.jr_cfg.specs.MemberRoutes as member_route
 use Rattle.jr_expr_sites.specs.KnownFacts.{Given, known_of, place}
 use Rattle.jr_expr_sites.specs.Routes.{begins_by}
 use Rattle.jr_pieces.specs.Before.{StmtEvaluated}
-use Rattle.jr_piece_sites.specs.Extents.{HasRange}
+use Rattle.jr_piece_sites.specs.Extents.{HasRange, piece_size}
 use Rattle.jr_piece_sites.specs.Fronts.{before}
 use Rattle.jr_piece_sites.specs.Leads.{spots_of}
 use Rattle.jr_piece_sites.specs.Pieces as pure
@@ -35,6 +35,20 @@ span-requires g c =
 
 pub range_at-requires : goal.range_at-requires
 range_at-requires g c = record { fits = c.requires.fits; start = ap (λ (z : Span). z.from) c.span.ensures; at = c.requires.at }
+
+pub returns-clause-exact : goal.returns-clause-exact
+returns-clause-exact g c o numbers x there =
+    let T = g.A.Mark.span_from in
+    let m = member_of c.args.member.now in
+    let base = c.args.base in
+    let facts = c.args.facts.now in
+    let K = known T c.args.table.now (g.F.Facts.key facts) (g.F.Facts.decls facts) (g.F.Facts.types facts) c.args.never_null.now base m in
+    let G : Given = record { rows = c.args.table.now; member = member_key_of c.member.result.now; start = c.span.result.from; decls = g.F.Facts.decls facts; types = g.F.Facts.types facts; never_null = c.args.never_null.now } in
+    let start : c.span.result.from ≡ begins_by T (member_mark m) base = ap (λ (z : Span). z.from) c.span.ensures ∙ ap (λ (x : g.row.A.Denot). begins_by T x base) (sym (member_mark_is c.args.member.now)) in
+    let same : G ≡ K = (λ i. record { rows = c.args.table.now; member = c.member.ensures i; start = start i; decls = g.F.Facts.decls facts; types = g.F.Facts.types facts; never_null = c.args.never_null.now }) in
+    let whole = pure.member (spots_of T base m) in
+    subst (λ (q : Given). IfOk c.range_at.result (λ r. (r.from ≡ before (known_of q o) whole c.args.path.now.steps.items) × (r.to ≡ r.from + piece_size (known_of q o) x))) same
+    (c.range_at.ensures o numbers x there)
 
 pub returns-clause-of_statement : goal.returns-clause-of_statement
 returns-clause-of_statement g c o numbers z there k super_at =

@@ -169,14 +169,14 @@ expr-returns-in_ok-word-in-SuperCall g t c =
     let text = ap (λ es. codes "super." ++ ((word_of at.name).text ++ (codes "(" ++ printed_args (exprs_of es) ++ codes ")"))) c.deref-in-SuperCall.ensures.value in
     on_ok_weaker c.arguments-in-SuperCall.result (λ e. put_three _ _ _ _ _ _ _ _ c.in_ok-put-in-SuperCall.ensures c.in_ok-word-in-SuperCall.ensures e (text ∙ call_text (codes "super.") (word_of at.name).text _ ∙ sym view)) c.arguments-in-SuperCall.ensures
 
-pub expr-returns-in_ok-ty-in-New : goal.expr-returns-in_ok-ty-in-New
+pub expr-returns-in_ok-boxed_ty-in-New : goal.expr-returns-in_ok-boxed_ty-in-New
 unfolding expr_kind expr_row held_target
-expr-returns-in_ok-ty-in-New g t c =
+expr-returns-in_ok-boxed_ty-in-New g t c =
     let at = c.in-New in
     let m = c.args.of.now.mark in
     let view = ap (λ d. printed (expr_kind m d)) at.is ∙ ap printed (expr_kind-New _ m at.of_type at.args) in
-    let text = ap (λ es. codes "new " ++ (printed_type (type_of at.of_type) ++ (codes "(" ++ printed_args (exprs_of es) ++ codes ")"))) c.deref-in-New.ensures.value in
-    on_ok_weaker c.arguments-in-New.result (λ e. put_three _ _ _ _ _ _ _ _ c.in_ok-put-in-New.ensures c.in_ok-ty-in-New.ensures e (text ∙ call_text (codes "new ") (printed_type (type_of at.of_type)) _ ∙ sym view)) c.arguments-in-New.ensures
+    let text = ap (λ es. codes "new " ++ (printed_type (type_of at.of_type.value) ++ (codes "(" ++ printed_args (exprs_of es) ++ codes ")"))) c.deref-in-New.ensures.value in
+    on_ok_weaker c.arguments-in-New.result (λ e. put_three _ _ _ _ _ _ _ _ c.in_ok-put-in-New.ensures c.in_ok-boxed_ty-in-New.ensures e (text ∙ call_text (codes "new ") (printed_type (type_of at.of_type.value)) _ ∙ sym view)) c.arguments-in-New.ensures
 
 pub expr-returns-in-Int : goal.expr-returns-in-Int
 unfolding expr_kind expr_row held_target
@@ -252,9 +252,9 @@ unfolding expr_kind expr_row held_target
 expr-returns-in_ok-put-in-Cast-2 g t c =
     let at = c.in-Cast in
     let view = ap (λ d. printed (expr_kind c.args.of.now.mark d)) at.is in
-    let to = printed_type (type_of at.to) in
+    let to = printed_type (type_of at.to.value) in
     let text = ap (λ x. codes "(" ++ (to ++ (codes ") " ++ printed (expr_of x)))) c.deref-in-Cast.ensures ∙ cast_text to (printed (expr_of at.part.value)) in
-    on_ok_weaker c.expr-in-Cast.result (λ e. put_four _ _ _ _ _ _ _ _ _ _ c.in_ok-put-in-Cast.ensures c.in_ok-ty-in-Cast.ensures c.in_ok-put-in-Cast-2.ensures e (text ∙ sym view)) c.expr-in-Cast.ensures
+    on_ok_weaker c.expr-in-Cast.result (λ e. put_four _ _ _ _ _ _ _ _ _ _ c.in_ok-put-in-Cast.ensures c.in_ok-boxed_ty-in-Cast.ensures c.in_ok-put-in-Cast-2.ensures e (text ∙ sym view)) c.expr-in-Cast.ensures
 
 pub expr-returns-in_ok-put-in-Unary : goal.expr-returns-in_ok-put-in-Unary
 unfolding expr_kind expr_row held_target

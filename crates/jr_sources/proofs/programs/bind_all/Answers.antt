@@ -50,5 +50,8 @@ returns-in-Ok-bound-clause-analysed g c =
     let ws = map written_of c.as_slice.result.now in
     let written = ap (map written_of) c.as_slice.ensures.value ∙ c.in-Ok.ensures in
     analysis c.text_has_one_reading.ensures c.one_answer.ensures.items c.parts_are_placed.ensures.parts c.parts_are_placed.ensures.supers c.one_is_bound.ensures c.members_are_written.ensures
-    c.args.sources.now (map unit_of c.args.files.now.units.now) c.args.files.now.words.now c.requires.read c.args.files.now.tokens.now c.requires.lexed (record { table = c.args.table; members = c.in-Ok-bound.members })
+    c.args.sources.now (map unit_of c.args.files.now.units.now) c.args.files.now.words.now c.requires.read c.args.files.now.tokens.now c.requires.lexed (record { table = c.args.table; members = c.in-Ok-bound.made.0 })
     c.requires.table c.keeps_rows.ensures ws written c.in-Ok-bound.ensures.known c.in-Ok-bound.ensures.each c.in-Ok-bound.ensures.order
+
+pub returns-in-Ok-bound-clause-left : goal.returns-in-Ok-bound-clause-left
+returns-in-Ok-bound-clause-left g c = c.in-Ok-bound.ensures.back

@@ -1,4 +1,4 @@
-use Rattle.std.proofs.Common.{◌≡◌, ◌≤◌, ℕ, List, length, map, sym, ap, subst, ◌∙◌, arith}
+use Rattle.std.proofs.Common.{◌≡◌, ◌≤◌, ℕ, List, length, map, refl, sym, ap, subst, ◌∙◌, arith}
 use Rattle.std.specs.Prelude.{Bool}
 use Rattle.std.proofs.lemmas.List.{length-map}
 use Rattle.jr_ast.specs.View.{unit_of}
@@ -41,8 +41,8 @@ rebind_members-bound-requires-clause-comes g c =
     let of_members = subst (λ ms. IsRebinding e.analysis.table rows c.args.files.now.tokens.now ws c.as_slice-2.result.now ms) (sym p.members) of_stays in
     subst (λ before. IsRebinding before rows c.args.files.now.tokens.now ws c.as_slice-2.result.now c.parts-parts.result.1.items) (sym p.table) of_members
 
-pub returns-clause-cost : goal.returns-clause-cost
-returns-clause-cost g c =
+pub returns-in-Err-clause-cost : goal.returns-in-Err-clause-cost
+returns-in-Err-clause-cost g c =
     let ws = map written_of c.as_slice.result.now in
     let written = ap (map written_of) c.as_slice.ensures.value ∙ c.in-Ok.ensures in
     counted c.text_has_one_reading.ensures c.args.sources.now (map unit_of c.args.files.now.units.now) c.args.files.now.words.now c.requires.read c.parts-parts.result.0 (subst (IsTableOf c.args.sources.now) (sym c.parts-parts.ensures.table) c.requires.table) ws written
@@ -60,5 +60,9 @@ returns-in-Ok-bound-clause-analysed g c =
     let ws = map written_of c.as_slice.result.now in
     let written = ap (map written_of) c.as_slice.ensures.value ∙ c.in-Ok.ensures in
     analysis c.text_has_one_reading.ensures c.one_answer.ensures.items c.parts_are_placed.ensures.parts c.parts_are_placed.ensures.supers c.one_is_bound.ensures c.members_are_written.ensures
-    c.args.sources.now (map unit_of c.args.files.now.units.now) c.args.files.now.words.now c.requires.read c.args.files.now.tokens.now c.requires.lexed (record { table = c.parts-parts.result.0; members = c.in-Ok-bound.members })
+    c.args.sources.now (map unit_of c.args.files.now.units.now) c.args.files.now.words.now c.requires.read c.args.files.now.tokens.now c.requires.lexed (record { table = c.parts-parts.result.0; members = c.in-Ok-bound.made.0 })
     (subst (IsTableOf c.args.sources.now) (sym c.parts-parts.ensures.table) c.requires.table) c.keeps_rows.ensures ws written c.in-Ok-bound.ensures.known c.in-Ok-bound.ensures.each c.in-Ok-bound.ensures.order
+
+pub returns-in-Ok-bound-clause-left : goal.returns-in-Ok-bound-clause-left
+returns-in-Ok-bound-clause-left g c =
+    (_, refl, record { table = c.parts-parts.ensures.table; members = c.in-Ok-bound.ensures.back ∙ c.parts-parts.ensures.members })

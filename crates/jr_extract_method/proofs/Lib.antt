@@ -1,0 +1,3 @@
+-- `Apart`: spots are used. `Cases`: small examples, each a sentence of the rules.
+pub mod Apart
+mod Cases

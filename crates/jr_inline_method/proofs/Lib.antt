@@ -1,0 +1,3 @@
+-- `Apart`: the spot is used.
+pub mod Apart
+mod Cases

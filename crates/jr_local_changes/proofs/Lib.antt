@@ -1,0 +1,3 @@
+-- `RunFits`: changes of a run of tokens. `Pieces`: of the expression.
+mod RunFits
+mod Pieces

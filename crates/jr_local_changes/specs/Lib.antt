@@ -1,0 +1,2 @@
+-- `PieceChanges`: the changes of the expression that extract local moves.
+pub mod PieceChanges

@@ -1,0 +1,2 @@
+-- `Called`: from what calls answer of pieces to the pair that they lose.
+pub mod Called

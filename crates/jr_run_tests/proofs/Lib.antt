@@ -1,2 +1,0 @@
--- `OneMember`: that one member of a program can be bound by its key.
-mod OneMember

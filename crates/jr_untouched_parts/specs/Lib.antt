@@ -1,0 +1,5 @@
+pub mod Staying
+pub mod Sights
+pub mod Around
+pub mod Locals
+pub mod Methods
