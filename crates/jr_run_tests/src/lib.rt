@@ -3,7 +3,7 @@
 //!
 //! Questions and answers stand in texts, a row a line, which one loop reads (`rows`): what words
 //! mean, what scripts are read as, shows, runs and renames (`words`, `scripts`, `shows`,
-//! `dependences`, `runs`, `renames`, `renaming`, `kinds`, `rules`, `endings`). Beside the rows: files
+//! `dependences`, `runs`, `renames`, `renaming`, `kinds`, `locals`, `rules`, `endings`). Beside the rows: files
 //! that are fetched and stored, texts of reports and faults, sessions, want of memory (`files`,
 //! `reports`, `faults`, `sessions`, `memory`).
 #![tactic(auto)]
@@ -20,6 +20,8 @@ mod faults;
 mod files;
 #[cfg(test)]
 mod kinds;
+#[cfg(test)]
+mod locals;
 #[cfg(test)]
 mod memory;
 #[cfg(test)]

@@ -3,6 +3,7 @@
 use crate::dependences::{self, show_among, show_dependences, show_many};
 use crate::endings::{self, end_by};
 use crate::kinds::{self, run_kind};
+use crate::locals::{self, run_extract};
 use crate::renaming::{self, run_back, run_renamed, run_two};
 use crate::runs::{self, run_bad, run_edits, run_one, run_source};
 use crate::scripts::{self, read};
@@ -47,6 +48,7 @@ fn answer(rt: &impl Abort, alloc: Global, asked: &str) -> String {
         "two" => run_two(rt, alloc, asked),
         "three" => run_renamed(rt, alloc, asked),
         "rename" => run_kind(rt, alloc, asked),
+        "extract" => run_extract(rt, alloc, asked),
         "back" => run_back(rt, alloc, asked),
         _ => end_by(rt, alloc, asked),
     }
@@ -80,6 +82,7 @@ fn rows_are_answered(rt: HostRuntime) {
     assert_rows(&rt, alloc, renaming::THREE, 8);
     assert_rows(&rt, alloc, renaming::BACK, 2);
     assert_rows(&rt, alloc, kinds::ROWS, 66);
+    assert_rows(&rt, alloc, locals::ROWS, 56);
     assert_rows(&rt, alloc, endings::ROWS, 11);
     assert_rows(&rt, alloc, dependences::ROWS, 64);
     assert_rows(&rt, alloc, dependences::AMONG, 79);

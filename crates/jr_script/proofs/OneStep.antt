@@ -15,7 +15,7 @@ use Rattle.jr_names.specs.declared.steps.What.{What}
 use Rattle.jr_names.specs.declared.steps.What.TheVariants.{Bindings, Dependences}
 use Rattle.jr_names.specs.declared.steps.Step.{Step}
 use Rattle.jr_names.specs.declared.steps.Step.TheVariants.{Edit, Rename, ExtractLocal, ExtractMethod, InlineLocal, InlineMethod, PullUp, MoveStatic, MoveInstance, Show, Undo, Redo}
-use Rattle.jr_script.specs.Rows.{Column, column, Row, row, rows, edit_row, rename_row, show_row, names_of}
+use Rattle.jr_script.specs.Rows.{Column, column, Row, row, rows, edit_row, rename_row, show_row, extract_local_row, names_of}
 use Rattle.jr_script.specs.Steps.{Cell, HasCell, Means, word_of, cells_of, columns_of}
 use Rattle.jr_script.specs.StepFaults.{HasColumn, HasWord, IsRowFault, IsBad}
 
@@ -24,7 +24,8 @@ use Rattle.jr_script.specs.StepFaults.{HasColumn, HasWord, IsRowFault, IsBad}
 columns_at : List ℕ → List Column
 columns_at word =
     cond (bytes_eq word (codes "edit")) edit_row.columns
-    (cond (bytes_eq word (codes "rename")) rename_row.columns (cond (bytes_eq word (codes "show")) show_row.columns []))
+    (cond (bytes_eq word (codes "rename")) rename_row.columns
+    (cond (bytes_eq word (codes "show")) show_row.columns (cond (bytes_eq word (codes "extract_local")) extract_local_row.columns [])))
 
 columns_from_word : (r : Row) → Contains rows r → r.columns ≡ columns_at r.word
 unfolding columns_at
@@ -33,7 +34,8 @@ columns_from_word r (suc zero, l, e) = subst (λ x. x.columns ≡ columns_at x.w
 columns_from_word r (suc (suc zero), l, e) = subst (λ x. x.columns ≡ columns_at x.word) e refl
 columns_from_word r (suc (suc (suc zero)), l, e) = subst (λ x. x.columns ≡ columns_at x.word) e refl
 columns_from_word r (suc (suc (suc (suc zero))), l, e) = subst (λ x. x.columns ≡ columns_at x.word) e refl
-columns_from_word r (suc (suc (suc (suc (suc k)))), l, e) = absurd (omega arith)
+columns_from_word r (suc (suc (suc (suc (suc zero)))), l, e) = subst (λ x. x.columns ≡ columns_at x.word) e refl
+columns_from_word r (suc (suc (suc (suc (suc (suc k))))), l, e) = absurd (omega arith)
 
 one_word : (d : Data) (word other : List ℕ) → HasWord d word → HasWord d other → word ≡ other
 one_word d word other h g = let both : Some (string word) ≡ Some (string other) = sym h ∙ g in cc
@@ -76,11 +78,12 @@ step_from word ds =
     cond (bytes_eq word (codes "edit")) (Edit (file_in ds) (number_in (get_or ds 1 null)) (number_in (get_or ds 2 null)) (text_in (get_or ds 3 null)))
     (cond (bytes_eq word (codes "rename")) (Rename (file_in ds) (number_in (get_or ds 1 null)) (text_in (get_or ds 2 null)))
     (cond (bytes_eq word (codes "show")) (Show (file_in ds) (what_in (get_or ds 1 null)))
-    (cond (bytes_eq word (codes "undo")) Undo Redo)))
+    (cond (bytes_eq word (codes "undo")) Undo
+    (cond (bytes_eq word (codes "redo")) Redo (ExtractLocal (file_in ds) (number_in (get_or ds 1 null)) (number_in (get_or ds 2 null)) (text_in (get_or ds 3 null)))))))
 
 -- whether a row has the word
 is_built : List ℕ → Bool
-is_built word = bytes_eq word (codes "edit") || bytes_eq word (codes "rename") || bytes_eq word (codes "show") || bytes_eq word (codes "undo") || bytes_eq word (codes "redo")
+is_built word = bytes_eq word (codes "edit") || bytes_eq word (codes "rename") || bytes_eq word (codes "show") || bytes_eq word (codes "undo") || bytes_eq word (codes "redo") || bytes_eq word (codes "extract_local")
 
 built_from_row : (r : Row) → Contains rows r → is_built r.word ≡ true
 unfolding is_built
@@ -89,7 +92,8 @@ built_from_row r (suc zero, l, e) = subst (λ x. is_built x.word ≡ true) e ref
 built_from_row r (suc (suc zero), l, e) = subst (λ x. is_built x.word ≡ true) e refl
 built_from_row r (suc (suc (suc zero)), l, e) = subst (λ x. is_built x.word ≡ true) e refl
 built_from_row r (suc (suc (suc (suc zero))), l, e) = subst (λ x. is_built x.word ≡ true) e refl
-built_from_row r (suc (suc (suc (suc (suc k)))), l, e) = absurd (omega arith)
+built_from_row r (suc (suc (suc (suc (suc zero)))), l, e) = subst (λ x. is_built x.word ≡ true) e refl
+built_from_row r (suc (suc (suc (suc (suc (suc k))))), l, e) = absurd (omega arith)
 
 not_built : (word : List ℕ) (columns : List Column) → Contains rows (row word columns) → is_built word ≡ false → ⊥
 not_built word columns there other = true≢false (sym (built_from_row (row word columns) there) ∙ other)
@@ -99,7 +103,7 @@ step_again : (s : Step) → Contains rows (row (word_of s) (columns_of s)) → s
 unfolding step_from values_of file_in text_in number_in what_in is_built
 step_again (Edit file from to new) h = refl
 step_again (Rename file at name) h = refl
-step_again (ExtractLocal file from to name) h = absurd (not_built (codes "extract_local") _ h refl)
+step_again (ExtractLocal file from to name) h = refl
 step_again (ExtractMethod file from to name) h = absurd (not_built (codes "extract_method") _ h refl)
 step_again (InlineLocal file at) h = absurd (not_built (codes "inline_local") _ h refl)
 step_again (InlineMethod file at) h = absurd (not_built (codes "inline_method") _ h refl)

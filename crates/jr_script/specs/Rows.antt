@@ -49,9 +49,14 @@ undo_row = row (codes "undo") []
 abbrev pub redo_row : Row
 redo_row = row (codes "redo") []
 
+abbrev pub extract_local_row : Row
+extract_local_row = row (codes "extract_local") (column (codes "file") text
+    ∷ column (codes "from") offset ∷ column (codes "to") offset ∷ column (codes "name") text ∷ [])
+
 -- the steps that are built: every other word is unknown
 abbrev pub rows : List Row
-rows = edit_row ∷ rename_row ∷ show_row ∷ undo_row ∷ redo_row ∷ []
+rows =
+    edit_row ∷ rename_row ∷ show_row ∷ undo_row ∷ redo_row ∷ extract_local_row ∷ []
 
 -- the member that has the word
 abbrev pub word_name : List ℕ

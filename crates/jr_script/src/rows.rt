@@ -42,6 +42,8 @@ fn read_row(alloc: Global, element: &Value, word: &str) -> Result<Step, StepFaul
         read_undo(alloc, element)
     } else if word == "redo" {
         read_redo(alloc, element)
+    } else if word == "extract_local" {
+        read_extract_local(alloc, element)
     } else {
         Err(member_fault(alloc, "step"))
     }
@@ -104,4 +106,22 @@ fn read_redo(alloc: Global, element: &Value) -> Result<Step, StepFault>
 {
     only_members(alloc, element, &["step"])?;
     Ok(Step::Redo)
+}
+
+fn read_extract_local(alloc: Global, element: &Value) -> Result<Step, StepFault>
+    requires { HasWord (view element.now) (codes "extract_local") }
+    ensures ok { IfOk result (Means (view element.now)) }
+    ensures fault { IfErr result (Tells (IsBad (view element.now))) }
+{
+    let file = text_member(alloc, element, "file")?;
+    let from = offset_member(alloc, element, "from")?;
+    let to = offset_member(alloc, element, "to")?;
+    let name = text_member(alloc, element, "name")?;
+    only_members(alloc, element, &["step", "file", "from", "to", "name"])?;
+    Ok(Step::ExtractLocal {
+        file,
+        from,
+        to,
+        name,
+    })
 }

@@ -36,6 +36,7 @@ module _ (later : Analysis) where
 
   pub left_by : (given : Option EarlierAnalysis) (former : Option FormerAnalysis) → CanHaveBack given later.table later.members.items former → (left : Option EarlierAnalysis) (j : Judged) → IsHadBackBy former later left j → IsLeftBy given left j
   left_by given former can left (judges.Wrong fault) h = had given former can left h
+  left_by given former can left judges.Crossed h = had given former can left h
   left_by given former can left (judges.Sound analysis) h = tt
 
 -- nothing was taken

@@ -1,7 +1,7 @@
 -- States: `Histories`, `Places`, `KeptLaws`, `StateLaws`, `LengthLaws`, `EditLaws`, `Exchanging`,
 -- `Turning`, `SessionSteps`, `StepCases`, `StepFiles`, `RefusalCases`, `Telling` (the places that a
 -- refusal tells). Shows: `ShownLines`, `ShownMembers`, `DependenceShows`, `ShownOnce`, `ShowSteps`, `Showing`. A refactoring: `Making`, `Planning`,
--- `Trying`, `Staying`, `HadBack` (what was analysed before), `Refactored`, `RefactoredFiles`; a rename: `RenameSteps`, `NewTables`,
+-- `Trying`, `Staying`, `HadBack` (what was analysed before), `Refactored`, `RefactoredFiles`, `PlansRead`, `RequestSteps`; a rename: `NewTables`,
 -- `NewTells`. One answer: `OneAnswer` (edits, undoing, redoing), `OneFault`, `OneWrong`,
 -- `OneRefactoring`, `RenameRequest`, `OneStep`; `PlanReasons`, `FirstReason`. Promises: `KeptPrograms`
 -- (of any refactoring, by what it shows), `NewPrograms` (of a rename), `NewTrees`, `NewRows`,
@@ -21,6 +21,8 @@ pub mod OneFault
 pub mod OneWrong
 pub mod OneRefactoring
 pub mod RenameRequest
+pub mod SpanRequest
+pub mod ExtractRequest
 pub mod OneStep
 pub mod PlanReasons
 pub mod FirstReason
@@ -37,14 +39,16 @@ pub mod Trying
 pub mod Telling
 pub mod RefactoredFiles
 pub mod StepFiles
-pub mod RenameSteps
 pub mod Refactored
 pub mod BareReferences
 pub mod TakenBack
 pub mod NewRows
 pub mod NewTrees
+pub mod PlansRead
+pub mod RequestSteps
 pub mod NewTables
 pub mod KeptPrograms
+pub mod ExtractedPrograms
 pub mod NewPrograms
 pub mod Staying
 pub mod HadBack

@@ -32,7 +32,9 @@ use Rattle.jr_reference_changes.specs.PlacesInFiles.{PlansAreOfPlaces}
 use Rattle.jr_kept_runs.specs.Laws.{RenamesKeepRuns, RenamesKeepFirstValues, RenamesKeepHistories}
 use Rattle.jr_sources.specs.Whole.{IsProgramOf}
 use Rattle.jr_session.specs.NewTexts.{with_edits}
-use Rattle.jr_session.specs.Asked.{KeepsNames, rename}
+use Rattle.jr_session.specs.Asked.{KeepsNames, rename, extract}
+use Rattle.jr_session.specs.PlansRead.{PlansRead}
+use Rattle.jr_session.specs.ExtractedPrograms.{ExtractsKeepRows, ExtractsKeepFirstValues}
 use Rattle.jr_session.specs.Promises.{StepsKeepPrograms}
 use Rattle.jr_session.specs.Refactored.{IsPlan, Refactors}
 use Rattle.jr_session.specs.States.{State}
@@ -40,8 +42,10 @@ use Rattle.jr_session.proofs.BareReferences.{kept_bare, written_bare, super_kept
 use Rattle.jr_session.proofs.NewRows.{new_rows}
 use Rattle.jr_session.proofs.KeptPrograms.{HasOneCodeEach, IsShown, keeps_program}
 use Rattle.jr_session.proofs.NewTrees.{units_are, became, trees as new_trees}
+use Rattle.jr_session.proofs.PlansRead.{rename_reads}
 use Rattle.jr_session.proofs.RenameRequest.{plan_of}
-use Rattle.jr_session.proofs.TakenBack.{renamed_of}
+use Rattle.jr_session.proofs.ExtractedPrograms.{extract_shown}
+use Rattle.jr_session.proofs.TakenBack.{renamed_of, extracted_of}
 
 -- ---- trees
 
@@ -99,7 +103,7 @@ module _ (one : OneReading Span) (named : RowsAreNamed Span) (dots : NamesHaveNo
 
     trees : map without_marks (units_of q) ≡ map (λ (o : Rewritten (UnitTree Span)). without_marks o.tree) plan.planned.becomes.files
     trees = ap (map without_marks) (units_are (with_edits s.files is.edits) q is.whole.program)
-        ∙ new_trees read s.files p before step_plan.text step_plan.number at new is.edits step_plan.renaming n plan one is.whole.program.units is.whole.program.words is.whole.program.program.read
+        ∙ new_trees (rename file at new) (rename_reads read file at new) s.files p before plan.name step_plan.text step_plan.number is.edits step_plan.renaming n plan.planned one is.whole.program.units is.whole.program.words is.whole.program.program.read
 
     new_images : (q.rows ≡ rows_to g p.rows) × AreImages itself begins [] p.rows (units_of p) g (units_of q)
     new_images = new_rows s.files p before step_plan.text step_plan.number at new is.edits step_plan.renaming n plan named dots plans images built ctors (with_edits s.files is.edits) q is.whole.program trees
@@ -128,15 +132,19 @@ module _ (one : OneReading Span) (named : RowsAreNamed Span) (dots : NamesHaveNo
       first_values = firsts p q step_plan.text step_plan.number at new is.edits step_plan.renaming n plan trees new_images.0 new_images.1;
       own = names_kept;
       fit = λ i old there.
-          (let b = became read s.files p before step_plan.text step_plan.number at new is.edits step_plan.renaming n plan i old there in
+          (let b = became (rename file at new) (rename_reads read file at new) s.files p before plan.name step_plan.text step_plan.number is.edits step_plan.renaming n plan.planned i old there in
           (b.1, b.3, b.4.are, b.4.fits));
     }
 
 -- ---- all steps
 
-pub steps_keep : OneReading Span → RowsAreNamed Span → NamesHaveNoDot → PlansBecome Span → NewTextsRead → ReferencesStay → NewProgramsAreImages → BuiltRowsAreImages Span Span → ConstructorsGiveImages Span Span → DispatchIsKept → RenamesKeepRuns → RenamesKeepFirstValues → RenamesKeepHistories → FrontsStay → FamiliesAreWhole → FamiliesAreKept → PlansAreOfPlaces → PlansChangeNames → HasOneCodeEach → UntouchedBytesMove → StepsKeepPrograms
-steps_keep one named dots plans read references images built ctors dispatch runs firsts histories fronts family families places on_names coded move s t (step.Rename file at new) reply h =
+pub steps_keep : OneReading Span → RowsAreNamed Span → NamesHaveNoDot → PlansBecome Span → NewTextsRead → ReferencesStay → NewProgramsAreImages → BuiltRowsAreImages Span Span → ConstructorsGiveImages Span Span → DispatchIsKept → RenamesKeepRuns → RenamesKeepFirstValues → RenamesKeepHistories → FrontsStay → FamiliesAreWhole → FamiliesAreKept → PlansAreOfPlaces → PlansChangeNames → HasOneCodeEach → UntouchedBytesMove → PlansRead → ExtractsKeepRows → ExtractsKeepFirstValues → StepsKeepPrograms
+steps_keep one named dots plans read references images built ctors dispatch runs firsts histories fronts family families places on_names coded move plans_read rows_stay values_stay s t (step.Rename file at new) reply h =
     λ done.
     (let r = renamed_of s t file at new reply h done in
     keeps_program s t (rename file at new) r.0 r.1 r.2 coded move (shown one named dots plans read references images built ctors dispatch runs firsts histories fronts family families places on_names s t file at new r.0 r.1 r.2))
-steps_keep one named dots plans read references images built ctors dispatch runs firsts histories fronts family families places on_names coded move s t of reply h = tt
+steps_keep one named dots plans read references images built ctors dispatch runs firsts histories fronts family families places on_names coded move plans_read rows_stay values_stay s t (step.ExtractLocal file from to new) reply h =
+    λ done.
+    (let r = extracted_of s t file from to new reply h done in
+    keeps_program s t (extract file from to new) r.0 r.1 r.2 coded move (extract_shown one plans_read rows_stay values_stay s t file from to new r.0 r.1 r.2))
+steps_keep one named dots plans read references images built ctors dispatch runs firsts histories fronts family families places on_names coded move plans_read rows_stay values_stay s t of reply h = tt

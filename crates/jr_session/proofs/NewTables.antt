@@ -25,7 +25,9 @@ use Rattle.jr_sources.specs.Whole.{IsProgramOf}
 use Rattle.jr_sources.proofs.Analysing.{counts}
 use Rattle.jr_session.specs.NewTexts.{with_edits}
 use Rattle.jr_session.specs.NewTables.{NewTables}
+use Rattle.jr_session.specs.Asked.{rename}
 use Rattle.jr_session.proofs.NewTrees.{units_are, trees}
+use Rattle.jr_session.proofs.PlansRead.{rename_reads}
 
 -- ---- packages
 
@@ -97,7 +99,7 @@ module _ (one : OneReading Span) (read : NewTextsRead) (law : NewProgramsStayCle
     clean = subst (λ (us : List (UnitTree Span)). IsClean old (declarations_of begins us)) (sym units_before) before.program.clean
 
     read_as : map without_marks units ≡ map (λ (o : Rewritten (UnitTree Span)). without_marks o.tree) plan.planned.becomes.files
-    read_as = trees read sources p before text number at new edits renaming respelled plan one units words are
+    read_as = trees (rename [] at new) (rename_reads read [] at new) sources p before plan.name text number edits renaming respelled plan.planned one units words are
 
     images : AreImages itself begins old p.rows (units_of p) plan.planned.found.g units
     images = law p text number at new edits renaming respelled plan kind old clean units read_as

@@ -14,11 +14,13 @@ use Rattle.jr_table.specs.Decls.{Decl}
 use Rattle.jr_table.specs.DeclaredItems.{DeclaredItem}
 use Rattle.jr_punit_laws.specs.OneReading.{OneReading}
 use Rattle.jr_bind.specs.Programs.{File, Program, units_of}
-use Rattle.jr_rewrite.specs.Rewrites.{Choosing, RewritesUnits}
+use Rattle.jr_rewrite.specs.Rewrites.{Choosing}
+use Rattle.jr_rewrite.specs.Spots.{Spotted}
 use Rattle.jr_rewrite.specs.Rewritten.{Rewritten}
 use Rattle.jr_rename_laws.specs.ImageLaws.{without_marks}
-use Rattle.jr_plan.proofs.Rename.{rewrite_back}
-use Rattle.jr_rename_laws.specs.PlanLaws.{IsPlanIn, IsNewText, NewTextsRead}
+use Rattle.jr_plan.specs.Reasons.{IsPlanned}
+use Rattle.jr_plan.specs.Transforms.{TransformsFiles}
+use Rattle.jr_rename_laws.specs.PlanLaws.{IsNewText}
 use Rattle.jr_sources.specs.FirstFault.{AreRead}
 use Rattle.jr_sources.specs.Sources.{Source}
 use Rattle.jr_sources.specs.Whole.{IsProgramOf}
@@ -26,6 +28,8 @@ use Rattle.jr_sources.proofs.AllRead.{element, text_there}
 use Rattle.jr_sources.proofs.Analysing.{counts, unit_read}
 use Rattle.jr_sources.proofs.WholeProgram.{length-files, units_files}
 use Rattle.jr_session.specs.NewTexts.{with_edits}
+use Rattle.jr_session.specs.PlansRead.{ReadsSo}
+use Rattle.jr_session.specs.Requests.{Request, IsGoodName}
 use Rattle.jr_session.proofs.Making.{length-edited}
 use Rattle.jr_session.proofs.Planning.{file as file_there}
 
@@ -50,9 +54,9 @@ units_are sources p is = ap (λ (fs : List (File Span)). map (λ (f : File Span)
 
 -- ---- trees
 
-many_units : (C : Choosing Span) (declarations : List DeclaredItem) (us : List (UnitTree Span)) (os : List (Rewritten (UnitTree Span))) → RewritesUnits itself C declarations us os → length os ≡ length us
-many_units C declarations [] os h = ap length h
-many_units C declarations (u ∷ us) os (o, ps, r, rest, are) = ap length are ∙ ap suc (many_units C declarations us ps rest)
+pub many_units : (C : Choosing Span) (declarations : List DeclaredItem) (spots : ℕ → Spotted Span) (us : List (UnitTree Span)) (os : List (Rewritten (UnitTree Span))) → TransformsFiles C declarations spots us os → length os ≡ length us
+many_units C declarations spots [] os h = ap length h
+many_units C declarations spots (u ∷ us) os (o, ps, r, rest, are) = ap length are ∙ ap suc (many_units C declarations (λ n. spots (suc n)) us ps rest)
 
 same_trees : (us : List (UnitTree Span)) (os : List (Rewritten (UnitTree Span))) → length us ≡ length os
     → ((i : ℕ) (u : UnitTree Span) (o : Rewritten (UnitTree Span)) → slice_get us i ≡ Some u → slice_get os i ≡ Some o → bare_unit u ≡ bare_unit o.tree)
@@ -65,29 +69,29 @@ same_trees (u ∷ us) (o ∷ os) n h =
     let rest = same_trees us os (omega (arith, n)) (λ i x y a b. h (suc i) x y a b) in
     λ i. first i ∷ rest i
 
-module _ (read : NewTextsRead) (sources : List Source) (p : Program Span) (before : IsProgramOf sources p)
-    (text : List ℕ) (number at : ℕ) (new : List ℕ) (edits : List (List Entry)) (renaming : List (Decl × Decl)) (respelled : ℕ) (plan : IsPlanIn p text number at new edits renaming respelled)
+module _ (ask : Request) (read : ReadsSo ask) (sources : List Source) (p : Program Span) (before : IsProgramOf sources p) (name : IsGoodName ask.name)
+    (text : List ℕ) (number : ℕ) (edits : List (List Entry)) (renaming : List (Decl × Decl)) (respelled : ℕ) (plan : IsPlanned p (ask.refactoring p text number) edits renaming respelled)
   where
     -- what the file of a number becomes
     abbrev pub New : ℕ → Source → Type 0
-    New i old = (o : Rewritten (UnitTree Span)) × (e : List Entry) × (slice_get plan.planned.becomes.files i ≡ Some o) × (slice_get edits i ≡ Some e) × IsNewText old.text e o.tree
+    New i old = (o : Rewritten (UnitTree Span)) × (e : List Entry) × (slice_get plan.becomes.files i ≡ Some o) × (slice_get edits i ≡ Some e) × IsNewText old.text e o.tree
 
     pub became : (i : ℕ) (old : Source) → slice_get sources i ≡ Some old → New i old
     became i old there =
         let f = file_there sources p before i (slice_get_within sources i old there) in
-        let r = read p text number at new edits renaming respelled plan i f.0 f.1 in
+        let r = read p text number edits renaming respelled before.is name plan i f.0 f.1 in
         let same : f.0.text ≡ old.text = same_Some f.0.text old.text (sym f.2 ∙ text_there sources i old there) in
         (r.0, r.1, r.2, r.3, subst (λ (x : List ℕ). IsNewText x r.1 r.0.tree) same r.4)
 
-    pub trees : OneReading Span → (units : List (UnitTree Span)) (words : List ℕ) → AreRead (with_edits sources edits) units words → map without_marks units ≡ map (λ (o : Rewritten (UnitTree Span)). without_marks o.tree) plan.planned.becomes.files
+    pub trees : OneReading Span → (units : List (UnitTree Span)) (words : List ℕ) → AreRead (with_edits sources edits) units words → map without_marks units ≡ map (λ (o : Rewritten (UnitTree Span)). without_marks o.tree) plan.becomes.files
     trees one units words are =
-        let planned = many_units _ _ (units_of p) plan.planned.becomes.files (rewrite_back p plan.planned.found.g plan.planned.becomes) ∙ length-map p.files (λ (f : File Span). f.unit) ∙ count_files sources p before in
-        same_trees units plan.planned.becomes.files (many ∙ sym planned) each
+        let planned = many_units _ _ _ (units_of p) plan.becomes.files plan.becomes.rewritten ∙ length-map p.files (λ (f : File Span). f.unit) ∙ count_files sources p before in
+        same_trees units plan.becomes.files (many ∙ sym planned) each
       where
         many : length units ≡ length sources
         many = (counts (with_edits sources edits) units words are).0 ∙ length-edited sources edits
 
-        each : (i : ℕ) (u : UnitTree Span) (o : Rewritten (UnitTree Span)) → slice_get units i ≡ Some u → slice_get plan.planned.becomes.files i ≡ Some o → bare_unit u ≡ bare_unit o.tree
+        each : (i : ℕ) (u : UnitTree Span) (o : Rewritten (UnitTree Span)) → slice_get units i ≡ Some u → slice_get plan.becomes.files i ≡ Some o → bare_unit u ≡ bare_unit o.tree
         each i u o there stands =
             let lt = slice_get_within units i u there in
             let total = many in

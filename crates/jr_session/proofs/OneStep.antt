@@ -12,12 +12,13 @@ use Rattle.jr_session.proofs.RefusalCases.{undo_no_edit, no_undo as edit_not_und
 use Rattle.jr_session.specs.States.{State, IsUndone, IsRedone}
 use Rattle.jr_session.specs.Refusing.{IsFirstRefusal, IsGranted}
 use Rattle.jr_members.specs.WrittenLaws.{MembersAreWritten}
+use Rattle.jr_local_plans.specs.OnePlan.{ExtractIsOne}
 use Rattle.jr_rename_laws.specs.OnePlan.{PlanIsOne}
 use Rattle.jr_program_laws.specs.PlaceLaws.{PartsArePlaced}
 use Rattle.jr_sources.proofs.Analysing.{OneItems}
 use Rattle.jr_sources.specs.ReadingLaws.{HasOneReading}
 use Rattle.jr_session.specs.Serving.{IsServed}
-use Rattle.jr_session.specs.Asked.{rename}
+use Rattle.jr_session.specs.Asked.{rename, extract}
 use Rattle.jr_session.specs.Refactored.{RefusesRefactoring, Refactors}
 use Rattle.jr_session.specs.Requests.{Request}
 use Rattle.jr_session.specs.Stepping.{Steps, IsEdited, IsShown}
@@ -26,6 +27,7 @@ use Rattle.jr_session.proofs.OneAnswer.{one_edited, one_refusal, one_undo_refusa
 use Rattle.jr_session.proofs.OneFault.{one_show_refusal}
 use Rattle.jr_session.proofs.OneRefactoring.{IsPlannedOnce, one_refused, refused_not_done, one_done}
 use Rattle.jr_session.proofs.RenameRequest.{rename_once}
+use Rattle.jr_session.proofs.ExtractRequest.{extract_once}
 use Rattle.jr_session.proofs.ShowSteps.{the_show, no_edit, no_undo, no_redo, would_once}
 
 -- a step is refused and nothing changes, or it is granted and done
@@ -130,6 +132,31 @@ rename_answers s file at new undone t h = absurd (rename_not_undo file new at h.
 rename_answers s file at new redone t h = absurd (rename_not_redo file new at h.1.0)
 rename_answers s file at new (refused x) t h = inl (x, refl, h.0, h.1)
 
+-- ---- an extraction of a local
+
+abbrev the_extract : List ℕ → ℕ → ℕ → List ℕ → Step
+the_extract file from to new = step.ExtractLocal file from to new
+
+extract_not_edit : (file other text new : List ℕ) (from to a b : ℕ) → the_extract file from to new ≡ step.Edit other a b text → ⊥
+extract_not_edit file other text new from to a b e = cc
+
+extract_not_show : (file other new : List ℕ) (of : What) (from to : ℕ) → the_extract file from to new ≡ step.Show other of → ⊥
+extract_not_show file other new of from to e = cc
+
+extract_not_undo : (file new : List ℕ) (from to : ℕ) → the_extract file from to new ≡ step.Undo → ⊥
+extract_not_undo file new from to e = cc
+
+extract_not_redo : (file new : List ℕ) (from to : ℕ) → the_extract file from to new ≡ step.Redo → ⊥
+extract_not_redo file new from to e = cc
+
+pub extract_answers : (s : State) (file : List ℕ) (from to : ℕ) (new : List ℕ) (r : Reply) (t : State) → Steps s (the_extract file from to new) r t → Answered s (extract file from to new) r t
+extract_answers s file from to new edited t h = absurd (extract_not_edit file h.1.edit.file h.1.text new from to h.1.span.from h.1.span.to h.1.edit.is)
+extract_answers s file from to new (refactored names respelled) t h = inr (names, respelled, refl, h.1)
+extract_answers s file from to new (shown a) t h = absurd (extract_not_show file h.1.shows.shows.file new h.1.shows.shown from to h.1.shows.shows.is)
+extract_answers s file from to new undone t h = absurd (extract_not_undo file new from to h.1.0)
+extract_answers s file from to new redone t h = absurd (extract_not_redo file new from to h.1.0)
+extract_answers s file from to new (refused x) t h = inl (x, refl, h.0, h.1)
+
 module _ (reading : HasOneReading) (items_once : OneItems) (placed : PartsArePlaced) (law : MembersAreWritten Span) (s : State) (ask : Request) (ones : IsPlannedOnce ask) (differ : Differ s.files) where
   both_refactored : (r q : Reply) (t u : State) → Answered s ask r t → Answered s ask q u → (r ≡ q) × (t ≡ u)
   both_refactored r q t u (inl g) (inl h) = (g.1 ∙ ap refused (one_refused reading items_once placed law s ask ones differ g.0 h.0 g.2 h.2) ∙ sym h.1, g.3 ∙ sym h.3)
@@ -150,7 +177,7 @@ module _ (reading : HasOneReading) (once : HasOneShow) where
         (g.1 ∙ ap shown lines ∙ sym h.1, g.3.becomes ∙ ap (λ (ls : List (List ℕ)). more_shown s (bytes_of ls)) lines ∙ sym h.3.becomes)
 
   -- ---- any step
-  module _ (items_once : OneItems) (placed : PartsArePlaced) (law : MembersAreWritten Span) (plan_once : PlanIsOne) where
+  module _ (items_once : OneItems) (placed : PartsArePlaced) (law : MembersAreWritten Span) (plan_once : PlanIsOne) (extract_is : ExtractIsOne) where
     pub one_answer : (s : State) (of : Step) (r q : Reply) (t u : State) → Differ s.files → IsServed of → Steps s of r t → Steps s of q u → (r ≡ q) × (t ≡ u)
     one_answer s (step.Edit file from to text) r q t u differ is g h =
         both s (step.Edit file from to text) edited (λ v. IsEdited s (step.Edit file from to text) v) r q t u (one_refusal s file from to text differ) (one_edited s file from to text differ t u) (edit_answers s file text from to r t g) (edit_answers s file text from to q u h)
@@ -159,7 +186,8 @@ module _ (reading : HasOneReading) (once : HasOneShow) where
     one_answer s (step.Show file of) r q t u differ is g h = both_shown s file of differ r q t u (show_answers s file of r t g) (show_answers s file of q u h)
     one_answer s (step.Rename file at new) r q t u differ is g h =
         both_refactored reading items_once placed law s (rename file at new) (rename_once plan_once file at new) differ r q t u (rename_answers s file at new r t g) (rename_answers s file at new q u h)
-    one_answer s (step.ExtractLocal a b c d) r q t u differ is g h = absurd is
+    one_answer s (step.ExtractLocal file from to new) r q t u differ is g h =
+        both_refactored reading items_once placed law s (extract file from to new) (extract_once extract_is file from to new) differ r q t u (extract_answers s file from to new r t g) (extract_answers s file from to new q u h)
     one_answer s (step.ExtractMethod a b c d) r q t u differ is g h = absurd is
     one_answer s (step.InlineLocal a b) r q t u differ is g h = absurd is
     one_answer s (step.InlineMethod a b) r q t u differ is g h = absurd is

@@ -1,11 +1,12 @@
 -- The states behind a refactoring, from what its body finds.
 use Rattle.std.proofs.Common.{◌≡◌, ℕ, List, [], ◌∷◌, ◌++◌, length, refl, sym, subst, inl, inr}
 use Rattle.std.specs.List.{slice_get}
-use Rattle.std.specs.Prelude.{Some}
+use Rattle.std.specs.Prelude.{Bool, Option, Some, None}
 use Rattle.std.proofs.lemmas.Option.{same_Some}
 use Rattle.jr_text.specs.Edits.{Entry}
 use Rattle.jr_names.specs.Refusals.{would_not_compile, too_long}
 use Rattle.jr_names.specs.Replies.{Reply, refactored, refused}
+use Rattle.jr_names.specs.Sites.{DepPair}
 use Rattle.jr_sources.specs.declared.analyses.Analysis.{Analysis}
 use Rattle.jr_sources.specs.declared.analyses.SourceFault.{SourceFault}
 use Rattle.jr_sources.specs.declared.kept.Readings.{Readings}
@@ -14,7 +15,6 @@ use Rattle.jr_sources.specs.BindingErrors.{AreSound, IsFirstWrong}
 use Rattle.jr_sources.specs.KeptReadings.{AreReadings}
 use Rattle.jr_sources.specs.ReadingLaws.{HasOneReading}
 use Rattle.jr_sources.specs.Sources.{Source, HasName, texts_of}
-use Rattle.jr_sources.specs.Whole.{IsProgramOf}
 use Rattle.jr_sources.proofs.Analysing.{no_fault}
 use Rattle.jr_session.specs.declared.changes.Change.{Change}
 use Rattle.jr_session.specs.declared.changes.Earlier.{Earlier}
@@ -25,12 +25,25 @@ use Rattle.jr_session.specs.Kept.{IsKept}
 use Rattle.jr_session.specs.Making.{IsMade}
 use Rattle.jr_session.specs.NewTexts.{with_edits, differing}
 use Rattle.jr_session.specs.Refactoring as by
-use Rattle.jr_session.specs.Refactoring.{IsTriedBy, StayWithin, IsRefactoredBy, CostsRefactoring}
+use Rattle.jr_session.specs.declared.refactorings.Changed.TheVariants as changed
+use Rattle.jr_session.specs.Refactoring.{loses, IsChangedBy, IsTriedBy, StayWithin, IsRefactoredBy, CostsRefactoring}
 use Rattle.jr_session.specs.States.{State}
-use Rattle.jr_session.specs.Trying.{IsTried, AreSomeProgram}
+use Rattle.jr_session.specs.Trying.{IsTried, AreSomeProgram, AreWhole}
 use Rattle.jr_session.specs.Turns.{IsChanged}
 use Rattle.jr_session.proofs.Histories.{names-put}
 use Rattle.jr_session.proofs.StateLaws.{state_of, state_as_before, refactored_state, kept_changed}
+
+-- ---- a refactoring's reply
+
+module _ (s : State) (news : List Source) (names : List (List ℕ)) (respelled : ℕ) (lost : Option DepPair) where
+  pub reply_wrong : (f : SourceFault) (may_stay : Bool) (t : State) → IsChangedBy s news may_stay (changed.Wrong f) t → (r : Reply) → r ≡ refused (would_not_compile (record { file = f.file; at = f.at }) f.kind.now) → IsTriedBy s news names respelled lost r t
+  reply_wrong f may_stay t h r e = by.breaks f.file f.at h.1 f.kind.now h.2 h.3 e h.0
+
+  pub reply_crossed : (may_stay : Bool) (t : State) → IsChangedBy s news may_stay changed.Crossed t → (pair : DepPair) → lost ≡ Some pair → (r : Reply) → r ≡ refused (loses pair) → IsTriedBy s news names respelled lost r t
+  reply_crossed may_stay t h pair is r e = by.crosses pair is h.2 e h.0
+
+  pub reply_done : (may_stay : Bool) (t : State) → IsChangedBy s news may_stay changed.Done t → lost ≡ None → (r : Reply) → r ≡ refactored names respelled → IsTriedBy s news names respelled lost r t
+  reply_done may_stay t h none r e = by.holds none h.2 e h.0
 
 -- ---- new texts that were tried
 
@@ -39,22 +52,27 @@ nothing_wrong : HasOneReading → (ss : List Source) (a : Analysis) → IsAnalys
 nothing_wrong reading ss a is sound name place kind (inl h) = no_fault reading ss is.units is.words is.program name place kind h
 nothing_wrong reading ss a is sound name place kind (inr h) = sound h.0 place h.1 h.3.has
 
-module _ (sources sources' : List Source) (changes : List Change) (undo undo' redo redo' : List Earlier) (shown : ℕ) (names : List (List ℕ)) (respelled : ℕ) where
-  pub tried_wrong : (f : SourceFault) → IsTried sources changes sources' (tries.Wrong f) → undo' ≡ undo → redo' ≡ redo → (r : Reply) → r ≡ refused (would_not_compile (record { file = f.file; at = f.at }) f.kind.now)
-      → IsTriedBy (state_of sources undo redo shown) (put_back sources changes) names respelled r (state_of sources' undo' redo' shown)
-  tried_wrong f h u d r e =
-      let named : HasName sources f.file h.1.name = subst (λ (ns : List (List ℕ)). slice_get ns f.file ≡ Some h.1.name) (names-put sources changes) h.1.named in
-      by.breaks f.file f.at h.1.name f.kind.now named h.1.first e (state_as_before sources sources' undo undo' redo redo' shown h.0 u d)
+pub whole_of : HasOneReading → (ss : List Source) (a : Analysis) → IsAnalysis ss a → AreSound ss → AreSomeProgram ss → AreWhole ss
+whole_of reading ss a is sound some = record { some = some; right = nothing_wrong reading ss a is sound }
 
-  module _ (analysis : Analysis) (step : Earlier) (h : IsTried sources changes sources' (tries.Sound analysis step.changes)) (kept : undo' ≡ undo ++ step ∷ []) (none : redo' ≡ []) where
+module _ (sources sources' : List Source) (changes : List Change) (may_stay : Bool) (undo undo' redo redo' : List Earlier) (shown : ℕ) where
+  pub tried_wrong : (f : SourceFault) → IsTried sources changes may_stay sources' (tries.Wrong f) → undo' ≡ undo → redo' ≡ redo
+      → IsChangedBy (state_of sources undo redo shown) (put_back sources changes) may_stay (changed.Wrong f) (state_of sources' undo' redo' shown)
+  tried_wrong f h u d =
+      let named : HasName sources f.file h.1.name = subst (λ (ns : List (List ℕ)). slice_get ns f.file ≡ Some h.1.name) (names-put sources changes) h.1.named in
+      (state_as_before sources sources' undo undo' redo redo' shown h.0 u d, h.1.name, named, h.1.first)
+
+  pub tried_crossed : IsTried sources changes may_stay sources' tries.Crossed → undo' ≡ undo → redo' ≡ redo
+      → IsChangedBy (state_of sources undo redo shown) (put_back sources changes) may_stay changed.Crossed (state_of sources' undo' redo' shown)
+  tried_crossed h u d = (state_as_before sources sources' undo undo' redo redo' shown h.0 u d, h.1, h.2)
+
+  module _ (analysis : Analysis) (step : Earlier) (h : IsTried sources changes may_stay sources' (tries.Sound analysis step.changes)) (kept : undo' ≡ undo ++ step ∷ []) (none : redo' ≡ []) where
     is_changed : IsChanged sources undo (put_back sources changes) sources' undo'
     is_changed = record { was = step; are = h.0; back = h.1; files = h.2; kept = kept }
 
-    pub tried_sound : HasOneReading → AreSomeProgram sources' → IsTriedBy (state_of sources undo redo shown) (put_back sources changes) names respelled (refactored names respelled) (state_of sources' undo' redo' shown)
-    tried_sound reading whole =
-        by.holds (λ name place kind w. nothing_wrong reading sources' analysis h.3 h.4 name place kind (subst (λ (ss : List Source). IsFirstWrong ss name place kind) (sym h.0) w)) whole.0
-        (subst (λ (ss : List Source). IsProgramOf ss whole.0) h.0 whole.1) refl
-        (refactored_state sources (put_back sources changes) sources' undo undo' redo redo' shown is_changed none)
+    pub tried_sound : HasOneReading → AreSomeProgram sources' → IsChangedBy (state_of sources undo redo shown) (put_back sources changes) may_stay changed.Done (state_of sources' undo' redo' shown)
+    tried_sound reading some =
+        (refactored_state sources (put_back sources changes) sources' undo undo' redo redo' shown is_changed none, h.5, subst AreWhole h.0 (whole_of reading sources' analysis h.3 h.4 some))
 
     pub tried_kept : (readings : Readings) → AreReadings (texts_of sources') readings → AreChanges (length sources) undo → IsKept sources' readings undo' redo' (Some analysis)
     tried_kept readings reads were =
@@ -69,14 +87,14 @@ module _ (sources sources' : List Source) (changes : List Change) (undo undo' re
 -- ---- what edits make
 
 module _ (s : State) (edits : List (List Entry)) (respelled : ℕ) where
-  pub made_long : (len : ℕ) → IsMade s.files edits (makes.TooLong len) → IsRefactoredBy s edits respelled (refused (too_long len)) s
-  made_long len h = by.long len h refl refl
+  pub made_long : (lost : Option DepPair) (len : ℕ) → IsMade s.files edits (makes.TooLong len) → IsRefactoredBy s edits respelled lost (refused (too_long len)) s
+  made_long lost len h = by.long len h refl refl
 
 module _ (sources : List Source) (edits : List (List Entry)) (changes : List Change) (names : List (List ℕ)) (news : put_back sources changes ≡ with_edits sources edits) (stay : StayWithin sources edits) where
   pub made_costs : (before after : ℕ) → CostsBinding (put_back sources changes) before after → CostsRefactoring sources edits before after
   made_costs before after h = by.tries stay (subst (λ (ss : List Source). CostsBinding ss before after) news h)
 
 pub made_tried : (s : State) (edits : List (List Entry)) (changes : List Change) (names : List (List ℕ)) (respelled : ℕ) → put_back s.files changes ≡ with_edits s.files edits → names ≡ differing s.files (with_edits s.files edits) → StayWithin s.files edits
-    → (r : Reply) (t : State) → IsTriedBy s (put_back s.files changes) names respelled r t → IsRefactoredBy s edits respelled r t
-made_tried s edits changes names respelled news named stay r t h =
-    by.tried stay (subst (λ (ns : List (List ℕ)). IsTriedBy s (with_edits s.files edits) ns respelled r t) named (subst (λ (ss : List Source). IsTriedBy s ss names respelled r t) news h))
+    → (lost : Option DepPair) (r : Reply) (t : State) → IsTriedBy s (put_back s.files changes) names respelled lost r t → IsRefactoredBy s edits respelled lost r t
+made_tried s edits changes names respelled news named stay lost r t h =
+    by.tried stay (subst (λ (ns : List (List ℕ)). IsTriedBy s (with_edits s.files edits) ns respelled lost r t) named (subst (λ (ss : List Source). IsTriedBy s ss names respelled lost r t) news h))

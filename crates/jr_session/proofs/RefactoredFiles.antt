@@ -46,10 +46,10 @@ as_many tells C declarations (u ∷ us) os h = let rest = as_many tells C declar
 named : (sources : List Source) (number : ℕ) (name : List ℕ) → HasName sources number name → number < length sources
 named sources number name has = let within = slice_get_within (names_of sources) number name has in let all = length-map sources (λ (s : Source). s.name) in omega (arith, within, all)
 
-in_files : (sources : List Source) (number : ℕ) (name text : List ℕ) → IsFile sources number name text → number < length sources
+pub in_files : (sources : List Source) (number : ℕ) (name text : List ℕ) → IsFile sources number name text → number < length sources
 in_files sources number name text is = slice_get_within sources number (record { name = name; text = text }) is
 
-of_program : (sources : List Source) (p : Program Span) → IsProgramOf sources p → length (units_of p) ≤ length sources
+pub of_program : (sources : List Source) (p : Program Span) → IsProgramOf sources p → length (units_of p) ≤ length sources
 of_program sources p is =
     let few = few_files sources is.units in
     let files = ap length is.files in

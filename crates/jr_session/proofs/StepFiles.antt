@@ -8,7 +8,8 @@ use Rattle.jr_sources.specs.Sources.{Source, names_of, with_text}
 use Rattle.jr_session.specs.States.{State}
 use Rattle.jr_session.specs.Refusing.{Applies, Refuses}
 use Rattle.jr_session.specs.Stepping.{IsRefactored, Steps}
-use Rattle.jr_session.specs.Asked.{rename}
+use Rattle.jr_session.specs.Asked.{rename, extract}
+use Rattle.jr_session.proofs.ExtractRequest.{extract_tells}
 use Rattle.jr_session.proofs.RefactoredFiles as refactoring
 use Rattle.jr_session.proofs.RefactoredFiles.{refused_places, rename_tells}
 use Rattle.jr_session.proofs.Telling.{TellsIn}
@@ -22,7 +23,7 @@ with_text_names (f ∷ fs) (suc number) text = ap (λ ns. f.name ∷ ns) (with_t
 refactored_names : (s : State) (step : Step) (files : List (List ℕ)) (respelled : ℕ) (t : State) → IsRefactored s step files respelled t → names_of t.files ≡ names_of s.files
 refactored_names s (Rename file at new) files respelled t is = refactoring.refactored_names s (rename file at new) files respelled t is
 refactored_names s (Edit file from to text) files respelled t is = absurd is
-refactored_names s (ExtractLocal file from to name) files respelled t is = absurd is
+refactored_names s (ExtractLocal file from to name) files respelled t is = refactoring.refactored_names s (extract file from to name) files respelled t is
 refactored_names s (ExtractMethod file from to name) files respelled t is = absurd is
 refactored_names s (InlineLocal file at) files respelled t is = absurd is
 refactored_names s (InlineMethod file at) files respelled t is = absurd is
@@ -70,7 +71,7 @@ refusal_tells s step (too_many_sites member count) applies = tt
 step_refusal : (s : State) (step : Step) (r : Refusal) → Refuses s step r → TellsIn (length s.files) r
 step_refusal s (Rename file at new) r h = refused_places s (rename file at new) (rename_tells s file at new) r h
 step_refusal s (Edit file from to text) r h = refusal_tells s (Edit file from to text) r h.applies
-step_refusal s (ExtractLocal file from to name) r h = refusal_tells s (ExtractLocal file from to name) r h.applies
+step_refusal s (ExtractLocal file from to name) r h = refused_places s (extract file from to name) (extract_tells s file from to name) r h
 step_refusal s (ExtractMethod file from to name) r h = refusal_tells s (ExtractMethod file from to name) r h.applies
 step_refusal s (InlineLocal file at) r h = refusal_tells s (InlineLocal file at) r h.applies
 step_refusal s (InlineMethod file at) r h = refusal_tells s (InlineMethod file at) r h.applies

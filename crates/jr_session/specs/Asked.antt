@@ -14,6 +14,7 @@ use Rattle.jr_rewrite.specs.AlongMembers.{AlongUnits}
 use Rattle.jr_rewrite.specs.Rewritten.{Rewritten}
 use Rattle.jr_images.specs.Images.{Renaming, member_to}
 use Rattle.jr_images.specs.Keeping.{IsKept, IsWritten, IsSuperKept, IsParentKept}
+use Rattle.jr_local.specs.Extracted.{extract_local}
 use Rattle.jr_plan.specs.Renaming.{IsFound, renaming}
 use Rattle.jr_rename_laws.specs.ImageLaws.{AreImages}
 use Rattle.jr_reference_changes.specs.Family.{RenamesFamily, KeepsFamilies}
@@ -73,8 +74,22 @@ rename file at new = record {
       KeepsNames p x.target x.g new files edits pairs q;
 }
 
+-- ---- extract local
+
+-- The expression of exactly these bytes becomes the initializer of a local of the name. It promises
+-- no more than every refactoring.
+abbrev pub extract : (file : List ℕ) → (from to : ℕ) → (new : List ℕ) → Request
+extract file from to new = record {
+  file = file;
+  places = from ∷ to ∷ [];
+  name = Some new;
+  refactoring = λ p text number. extract_local p number from to new;
+  Keeps = λ p text number x files edits pairs q. Unit {0};
+}
+
 -- ---- all steps
 
 abbrev pub asks_of : Step → Asks
 asks_of (step.Rename file at new) = refactors (rename file at new)
+asks_of (step.ExtractLocal file from to new) = refactors (extract file from to new)
 asks_of _ = nothing

@@ -18,6 +18,9 @@ pub mod Requests
 pub mod Refactored
 pub mod Asked
 pub mod RenameReasons
+pub mod PlansRead
+pub mod ExtractedPrograms
+pub mod RequestView
 pub mod Planning
 pub mod Making
 pub mod Trying

@@ -69,6 +69,7 @@ IsOfFile step.Redo name = ⊥
 abbrev pub NeedsProgram : Step → Type 0
 NeedsProgram (step.Show file of) = Unit {0}
 NeedsProgram (step.Rename file at new) = Unit {0}
+NeedsProgram (step.ExtractLocal file from to new) = Unit {0}
 NeedsProgram (step.Edit file from to text) = ⊥
 NeedsProgram step.Undo = ⊥
 NeedsProgram step.Redo = ⊥

@@ -6,6 +6,7 @@ use Rattle.jr_ast.specs.MemberTree.{Unit as UnitTree}
 use Rattle.jr_lex.specs.Replacing.{IsName}
 use Rattle.jr_table.specs.Decls.{Decl}
 use Rattle.jr_bind.specs.Programs.{Program}
+use Rattle.jr_names.specs.Refusals.{Refusal, bad_place, bad_name}
 use Rattle.jr_rewrite.specs.Rewritten.{Rewritten}
 use Rattle.jr_images.specs.Regions.{Images}
 use Rattle.jr_plan.specs.Reasons.{images_in}
@@ -78,3 +79,12 @@ IsGoodName (Some name) = IsName name
 abbrev pub IsBadName : Option (List ℕ) → (told : List ℕ) → Type 0
 IsBadName None told = ⊥
 IsBadName (Some name) told = (IsName name → ⊥) × (told ≡ name)
+
+-- ---- 2 and 3, in this order
+
+-- it can't be asked for: an offset is bad, or else the name is
+abbrev pub CannotBeAsked : (file text : List ℕ) → (places : List ℕ) → Option (List ℕ) → Refusal
+    → Type 0
+CannotBeAsked file text places name r =
+    ((at : ℕ) × IsBadPlace text places at × (r ≡ bad_place file at))
+    ⊎ ((told : List ℕ) × AreGoodPlaces text places × IsBadName name told × (r ≡ bad_name told))

@@ -30,5 +30,5 @@ TellsNow news given (after.Images table) = IsTableOf news table
 abbrev pub PlanTells : List Source → Option Analysis → Planned → After → Type 0
 PlanTells sources analysed (plan.Wrong fault) a = Unit {0}
 PlanTells sources analysed (plan.Refused r) a = Unit {0}
-PlanTells sources analysed (plan.Edits edits respelled) a =
+PlanTells sources analysed (plan.Edits edits respelled lost) a =
     TellsTable (with_edits sources edits) analysed a

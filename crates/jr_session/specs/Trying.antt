@@ -18,7 +18,7 @@ use Rattle.jr_bind.specs.Programs.{Program}
 use Rattle.jr_sources.specs.declared.analyses.Analysis.{Analysis}
 use Rattle.jr_sources.specs.declared.analyses.EarlierAnalysis.{EarlierAnalysis}
 use Rattle.jr_sources.specs.Analysed.{IsAnalysis, IsSourceWrong}
-use Rattle.jr_sources.specs.BindingErrors.{AreSound}
+use Rattle.jr_sources.specs.BindingErrors.{AreSound, IsFirstWrong}
 use Rattle.jr_sources.specs.Sources.{Source}
 use Rattle.jr_sources.specs.Whole.{IsProgramOf}
 use Rattle.jr_session.specs.declared.changes.Change.{Change}
@@ -28,27 +28,39 @@ use Rattle.jr_session.specs.declared.tries.Tried.{Tried}
 use Rattle.jr_session.specs.declared.tries.Tried.TheVariants as tries
 use Rattle.jr_session.specs.Changes.{put_back, AreOfFiles}
 
--- what is first wrong with the sources, or else what is analysed of them
-abbrev pub IsJudged : List Source → Judged → Type 0
-IsJudged sources (judges.Wrong fault) = IsSourceWrong sources fault
-IsJudged sources (judges.Sound analysis) = IsAnalysis sources analysis × AreSound sources
+-- the sources are a program without faults and errors
+abbrev pub AreSomeProgram : List Source → Type 0
+AreSomeProgram sources = (q : Program Span) × IsProgramOf sources q
 
--- What is first wrong with the new sources, and the old ones are there again; or else the new ones
--- are there, with what is analysed of them, and the texts that they had.
-abbrev pub IsTried : (sources : List Source) → (changes : List Change) → (now : List Source)
-    → Tried → Type 0
-IsTried sources changes now (tries.Wrong fault) =
+-- and so nothing is wrong with them
+pub record AreWhole (sources : List Source) : Type 0 where
+  pub some : AreSomeProgram sources
+  pub right : (name : List ℕ) (place : ℕ) (kind : List ℕ) → IsFirstWrong sources name place kind
+      → ⊥
+
+-- What is first wrong with the sources, or else what is analysed of them, where they may stay.
+abbrev pub IsJudged : List Source → (may_stay : Bool) → Judged → Type 0
+IsJudged sources may_stay (judges.Wrong fault) = IsSourceWrong sources fault
+IsJudged sources may_stay judges.Crossed = (may_stay ≡ false) × AreWhole sources
+IsJudged sources may_stay (judges.Sound analysis) =
+    IsAnalysis sources analysis × AreSound sources × (may_stay ≡ true)
+
+-- What is first wrong with the new sources, and the old ones are there again; or nothing is, but
+-- they may not stay, and the old ones are there again; or else the new ones are there, with what is
+-- analysed of them, and the texts that they had.
+abbrev pub IsTried : (sources : List Source) → (changes : List Change) → (may_stay : Bool)
+    → (now : List Source) → Tried → Type 0
+IsTried sources changes may_stay now (tries.Wrong fault) =
     (now ≡ sources) × IsSourceWrong (put_back sources changes) fault
-IsTried sources changes now (tries.Sound analysis had) =
+IsTried sources changes may_stay now tries.Crossed =
+    (now ≡ sources) × (may_stay ≡ false) × AreWhole (put_back sources changes)
+IsTried sources changes may_stay now (tries.Sound analysis had) =
     (now ≡ put_back sources changes)
     × (put_back now had.items ≡ sources)
     × AreOfFiles (length sources) had.items
     × IsAnalysis now analysis
     × AreSound now
-
--- the sources are a program without faults and errors
-abbrev pub AreSomeProgram : List Source → Type 0
-AreSomeProgram sources = (q : Program Span) × IsProgramOf sources q
+    × (may_stay ≡ true)
 
 -- a text of the file is among those that change
 abbrev pub changes_file : List Change → (file : ℕ) → Bool

@@ -1,5 +1,7 @@
 //! What holds of each step.
+ghost use Rattle.jr_session.specs.ExtractedPrograms.{ExtractsKeepFirstValues, ExtractsKeepRows};
 ghost use Rattle.jr_session.specs.NewTables.{NewTables};
+ghost use Rattle.jr_session.specs.PlansRead.{PlansRead};
 ghost use Rattle.jr_session.specs.Promises.{StepsKeepPrograms};
 ghost use Rattle.jr_session.specs.StepLaws.{HasOneAnswer, HasOneShow, RenamesAreRefusedFirst};
 
@@ -11,6 +13,8 @@ use jr_images::rows_are_named;
 use jr_kept_runs::{renames_keep_histories, renames_keep_runs};
 use jr_lex::one_answer;
 use jr_lines::lines_are_told;
+use jr_local_plans::extract_is_one;
+use jr_local_texts::extracts_fit;
 use jr_members::members_are_written;
 use jr_program_laws::parts_are_placed;
 use jr_punit::one_reading;
@@ -38,6 +42,7 @@ pub fn step_has_one_answer()
     parts_are_placed();
     members_are_written::<Span>();
     plan_is_one();
+    extract_is_one();
 }
 
 /// A rename is refused for exactly the first of its reasons, in the order of refusals, where each
@@ -89,6 +94,23 @@ pub fn accepted_refactorings_keep_programs()
     sound_programs_are_well_typed();
     first_values_stand::<Span>();
     untouched_bytes_move();
+    plans_read();
+    extracts_keep_programs();
+}
+
+/// Where a local is extracted, each program that is read as the planned trees has the rows of the
+/// old one, and its static fields begin with what they began with.
+pub(crate) fn extracts_keep_programs()
+    ensures rows { ExtractsKeepRows }
+    ensures first_values { ExtractsKeepFirstValues }
+{}
+
+/// Whatever is asked, what a plan's edits make of each file fits it, and reads as its new tree.
+pub(crate) fn plans_read()
+    ensures { PlansRead }
+{
+    plans_keep_programs();
+    extracts_fit();
 }
 
 /// Where no class is renamed, what a plan's edits make of sources that are a program has no fault

@@ -8,8 +8,9 @@
 //! which says that it is what reading and analysing from scratch give; no public clause mentions it.
 //!
 //! `steps` sends a step to the call that answers it. `sessions`, `begins`, `edits`, `shows`,
-//! `dependence_shows`, `renames`. `changes`: what a step changed, for undoing. `splices`: what an edit would make of a
-//! file. `turns`: files get other texts with their readings, the last first, and the old ones go on
+//! `dependence_shows`. `renames`, `extracts`: whether a refactoring can be asked for (1 to 3), and
+//! `requests`: any that can. `changes`: what a step changed, for undoing. `splices`: what an edit
+//! would make of a file. `turns`: files get other texts with their readings, the last first, and the old ones go on
 //! two lists; each step takes the room for the lists first, so that nothing fails once it has
 //! begun. `plans` analyses and plans; `refactorings` makes the edits, whatever planned them;
 //! `made`: the new texts, or the length that is too long; `tries` reads and binds the new program,
@@ -22,11 +23,13 @@ mod begins;
 mod changes;
 mod dependence_shows;
 mod edits;
+mod extracts;
 mod laws;
 mod made;
 mod plans;
 mod refactorings;
 mod renames;
+mod requests;
 mod sessions;
 mod shows;
 mod splices;

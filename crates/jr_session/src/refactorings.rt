@@ -1,21 +1,22 @@
 //! The edits of a refactoring are made, and what they make is bound again.
-ghost use Rattle.std.specs.Prelude.{◌≡◌, length, IfOk, OnErr};
+ghost use Rattle.std.specs.Prelude.{◌≡◌, length, option_map, IfOk, OnErr};
 ghost use Rattle.jr_names.specs.ReplyView.{reply_of};
 ghost use Rattle.jr_names.specs.Refusals as refusals;
 ghost use Rattle.jr_names.specs.Replies.{refused};
+ghost use Rattle.jr_names.specs.SiteView.{pair_of};
 ghost use Rattle.jr_sources.specs.Analysed.{CostsBinding, IsKeptAnalysis};
 ghost use Rattle.jr_session.specs.Changes.{put_back, AreOfFiles};
 ghost use Rattle.jr_session.specs.Making.{Fit};
 ghost use Rattle.jr_session.specs.TableTells.{TellsTable};
 ghost use Rattle.jr_session.specs.NewTexts.{with_edits};
-ghost use Rattle.jr_session.specs.Refactoring.{IsTriedBy, IsRefactoredBy, CostsRefactoring};
+ghost use Rattle.jr_session.specs.Refactoring.{IsChangedBy, IsTriedBy, IsRefactoredBy, CostsRefactoring, loses};
 
 use crate::changes::{Change, Earlier};
 use crate::made::{Made, new_texts};
 use crate::sessions::Session;
-use crate::tries::{Tried, sources_are_program, try_texts};
+use crate::tries::{NewTexts, Tried, sources_are_program, try_texts};
 use jr_ast::Name;
-use jr_names::{EditLists, Names, Refusal, Reply};
+use jr_names::{DepPair, EditLists, Names, Refusal, Reply};
 use jr_rename::After;
 use jr_sources::{Analysis, SourceFault, text_has_one_reading};
 use jr_steps::Steps;
@@ -36,27 +37,61 @@ fn would_not_compile(alloc: Global, fault: SourceFault) -> Result<Reply, AllocEr
     Ok(Reply::Refused(Refusal::WouldNotCompile { at, rule }))
 }
 
+// The refusal of a refactoring because of the dependence that is lost.
+fn lost_dependence(lost: DepPair) -> Reply
+    ensures { reply_of result ≡ refused (loses (pair_of lost)) }
+{
+    let DepPair {
+        kind,
+        first,
+        second,
+    } = lost;
+    Reply::Refused(Refusal::LostDependence {
+        kind,
+        first,
+        second,
+    })
+}
+
+/// Texts that files of these names get, and how many references are respelled in them.
+#[derive(Drop)]
+pub(crate) struct NamedTexts {
+    pub changes: Vec<Change>,
+    pub names: Vec<Name>,
+    pub respelled: u32,
+}
+
+/// What comes of texts that files get.
+#[derive(Drop)]
+pub(crate) enum Changed {
+    /// This is first wrong with the sources that have them, and nothing changes.
+    Wrong(SourceFault),
+    /// They may not stay, and nothing changes.
+    Crossed,
+    /// The sources have them.
+    Done,
+}
+
 impl Session {
-    // Files of these names get other texts in one step, unless something is wrong with the sources
-    // that have them.
+    // Files get other texts in one step, unless something is wrong with the sources that have them,
+    // or they may not stay.
     fn change_all<L: Ledger>(
         &mut self,
         alloc: Global,
-        changes: Vec<Change>,
-        names: Vec<Name>,
-        respelled: u32,
+        texts: NewTexts,
         after: &mut After,
         analysed: &mut Option<Analysis>,
         steps: &mut Steps<L>,
-    ) -> Result<Reply, AllocError>
-        requires files { AreOfFiles (length self.old.files) changes.items }
+    ) -> Result<Changed, AllocError>
+        requires files { AreOfFiles (length self.old.files) texts.changes.items }
         requires analysed { IsKeptAnalysis self.old.files analysed.old }
-        requires told { TellsTable (put_back self.old.files changes.items) analysed.old after.old }
-        ensures step { IfOk result (λ reply. IsTriedBy self.old
-            (put_back self.old.files changes.items) names.items respelled (reply_of reply)
-            self.new) }
+        requires told { TellsTable (put_back self.old.files texts.changes.items) analysed.old
+            after.old }
+        ensures step { IfOk result (λ changed. IsChangedBy self.old
+            (put_back self.old.files texts.changes.items) texts.may_stay changed self.new) }
         ensures err { OnErr result (self.new ≡ self.old) }
-        ensures work { CostsBinding (put_back self.old.files changes.items) steps.old steps.new }
+        ensures work { CostsBinding (put_back self.old.files texts.changes.items) steps.old
+            steps.new }
     {
         text_has_one_reading();
         self.undo.reserve(1)?;
@@ -65,29 +100,72 @@ impl Session {
             &mut self.sources,
             &mut self.readings,
             analysed,
-            changes,
+            texts,
             after,
             steps,
         )? {
             Tried::Wrong(fault) => {
                 self.analysed = analysed.take();
-                would_not_compile(alloc, fault)
+                Ok(Changed::Wrong(fault))
+            }
+            Tried::Crossed => {
+                self.analysed = analysed.take();
+                Ok(Changed::Crossed)
             }
             Tried::Sound { analysis, had } => {
                 sources_are_program(&self.sources, &self.readings, &analysis);
                 self.analysed = Some(analysis);
                 self.undo.push_reserved(Earlier { changes: had });
                 self.redo.clear();
-                Ok(Reply::Refactored {
-                    files: Names::from_vec(names),
-                    respelled,
-                })
+                Ok(Changed::Done)
             }
         }
     }
 
-    /// The edits of each file are made, unless a text would be too long, or something is wrong with
-    /// the sources that have the new texts.
+    // Files of these names get other texts, unless something is wrong with the sources that have
+    // them, or a dependence is lost.
+    fn change_named<L: Ledger>(
+        &mut self,
+        alloc: Global,
+        made: NamedTexts,
+        lost: &mut Option<DepPair>,
+        after: &mut After,
+        analysed: &mut Option<Analysis>,
+        steps: &mut Steps<L>,
+    ) -> Result<Reply, AllocError>
+        requires files { AreOfFiles (length self.old.files) made.changes.items }
+        requires analysed { IsKeptAnalysis self.old.files analysed.old }
+        requires told { TellsTable (put_back self.old.files made.changes.items) analysed.old
+            after.old }
+        ensures step { IfOk result (λ reply. IsTriedBy self.old
+            (put_back self.old.files made.changes.items) made.names.items made.respelled
+            (option_map pair_of lost.old) (reply_of reply) self.new) }
+        ensures err { OnErr result (self.new ≡ self.old) }
+        ensures work { CostsBinding (put_back self.old.files made.changes.items) steps.old
+            steps.new }
+    {
+        let NamedTexts {
+            changes,
+            names,
+            respelled,
+        } = made;
+        let may_stay = lost.is_none();
+        let texts = NewTexts { changes, may_stay };
+        match self.change_all(alloc, texts, after, analysed, steps)? {
+            Changed::Wrong(fault) => would_not_compile(alloc, fault),
+            Changed::Crossed => match lost.take() {
+                Some(pair) => Ok(lost_dependence(pair)),
+                None => unreachable!(),
+            },
+            Changed::Done => Ok(Reply::Refactored {
+                files: Names::from_vec(names),
+                respelled,
+            }),
+        }
+    }
+
+    /// The edits of each file are made, unless a text would be too long, something is wrong with
+    /// the sources that have the new texts, or the plan loses a dependence (18, behind 20 and 17).
     ///
     /// `after` tells of the table of the sources that have the new texts, and `analysed` is what
     /// was analysed of the old ones: it is kept again behind a refusal, and of no use then.
@@ -98,6 +176,7 @@ impl Session {
         alloc: Global,
         edits: &EditLists,
         respelled: u32,
+        lost: &mut Option<DepPair>,
         after: &mut After,
         analysed: &mut Option<Analysis>,
         steps: &mut Steps<L>,
@@ -106,7 +185,8 @@ impl Session {
         requires analysed { IsKeptAnalysis self.old.files analysed.old }
         requires told { TellsTable (with_edits self.old.files edits.now) analysed.old after.old }
         ensures step { IfOk result (λ reply.
-            IsRefactoredBy self.old edits.now respelled (reply_of reply) self.new) }
+            IsRefactoredBy self.old edits.now respelled (option_map pair_of lost.old)
+            (reply_of reply) self.new) }
         ensures err { OnErr result (self.new ≡ self.old) }
         ensures work { CostsRefactoring self.old.files edits.now steps.old steps.new }
     {
@@ -116,7 +196,12 @@ impl Session {
                 Ok(Reply::Refused(Refusal::TooLong { len }))
             }
             Made::Changes { changes, names } => {
-                self.change_all(alloc, changes, names, respelled, after, analysed, steps)
+                let made = NamedTexts {
+                    changes,
+                    names,
+                    respelled,
+                };
+                self.change_named(alloc, made, lost, after, analysed, steps)
             }
         }
     }

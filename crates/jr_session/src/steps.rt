@@ -71,7 +71,12 @@ impl Session {
                 What::Dependences => self.show_dependences(alloc, file, steps),
             },
             Step::Rename { file, at, name } => self.rename(alloc, file, *at, name, steps),
-            Step::ExtractLocal { .. } => unreachable!(),
+            Step::ExtractLocal {
+                file,
+                from,
+                to,
+                name,
+            } => self.extract_local(alloc, file, *from, *to, name, steps),
             Step::ExtractMethod { .. } => unreachable!(),
             Step::InlineLocal { .. } => unreachable!(),
             Step::InlineMethod { .. } => unreachable!(),

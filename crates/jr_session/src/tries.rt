@@ -21,7 +21,7 @@ use crate::turns::{exchange_all, readings_of};
 use jr_rename::After;
 use jr_sources::{
     Analysed, Analysis, EarlierAnalysis, FormerAnalysis, Readings, SourceFault, Sources, Whole,
-    analyse, analyse_same, analyse_with, first_error,
+    analyse, analyse_same, analyse_with, first_error, text_has_one_reading,
 };
 use jr_steps::Steps;
 use jr_table::Table;
@@ -29,12 +29,23 @@ use std::alloc::{AllocError, Global};
 use std::mem;
 use std::sync::ledger::Ledger;
 
+/// Texts that files get, and whether they stay where nothing is wrong with the sources that have
+/// them: a refactoring is refused for a lost dependence behind all that is wrong with its new
+/// program.
+#[derive(Drop)]
+pub(crate) struct NewTexts {
+    pub changes: Vec<Change>,
+    pub may_stay: bool,
+}
+
 /// What comes of sources that are analysed.
 #[derive(Drop)]
 pub(crate) enum Judged {
     /// This is first wrong with them.
     Wrong(SourceFault),
-    /// They are a program, no member of which breaks a rule.
+    /// They are a program, no member of which breaks a rule, but may not stay.
+    Crossed,
+    /// They are a program, no member of which breaks a rule, and stay.
     Sound(Analysis),
 }
 
@@ -43,6 +54,9 @@ pub(crate) enum Judged {
 pub(crate) enum Tried {
     /// This is first wrong with the sources that have them. The old texts are there again.
     Wrong(SourceFault),
+    /// The sources that have them are a program, no member of which breaks a rule, but may not
+    /// stay. The old texts are there again.
+    Crossed,
     /// The sources have them now, and are a program, no member of which breaks a rule. `had` are
     /// the texts that they had.
     Sound {
@@ -71,16 +85,46 @@ fn had_back(former: Option<FormerAnalysis>, later: Analysis) -> Option<EarlierAn
     }
 }
 
-// What comes of sources that have no fault. Where a member breaks a rule, what was analysed of the
-// earlier sources is there again.
+// What comes of sources of which no member breaks a rule. Where they may not stay, what was
+// analysed of the earlier ones is there again.
+fn judge_sound(
+    sources: &Sources,
+    readings: &Readings,
+    later: Analysis,
+    former: Option<FormerAnalysis>,
+    earlier: &mut Option<EarlierAnalysis>,
+    may_stay: bool,
+) -> Judged
+    requires readings { AreReadings (texts_of sources.now) readings.now }
+    requires analysis { IsAnalysis sources.now later }
+    requires sound { AreSound sources.now }
+    ensures judged { IsJudged sources.now may_stay result }
+    ensures left { IsHadBackBy former later earlier.new result }
+{
+    text_has_one_reading();
+    sources_are_program(sources, readings, &later);
+    if may_stay {
+        forget_former(former);
+        Judged::Sound(later)
+    } else {
+        *earlier = had_back(former, later);
+        Judged::Crossed
+    }
+}
+
+// What comes of sources that have no fault. Where a member breaks a rule, or they may not stay,
+// what was analysed of the earlier sources is there again.
 fn judge_analysed(
     sources: &Sources,
+    readings: &Readings,
     analysis: Analysis,
     former: Option<FormerAnalysis>,
     earlier: &mut Option<EarlierAnalysis>,
+    may_stay: bool,
 ) -> Judged
-    requires { IsAnalysis sources.now analysis }
-    ensures judged { IsJudged sources.now result }
+    requires readings { AreReadings (texts_of sources.now) readings.now }
+    requires analysis { IsAnalysis sources.now analysis }
+    ensures judged { IsJudged sources.now may_stay result }
     ensures left { IsHadBackBy former analysis earlier.new result }
 {
     match first_error(sources, &analysis) {
@@ -88,10 +132,7 @@ fn judge_analysed(
             *earlier = had_back(former, analysis);
             Judged::Wrong(error)
         }
-        None => {
-            forget_former(former);
-            Judged::Sound(analysis)
-        }
+        None => judge_sound(sources, readings, analysis, former, earlier, may_stay),
     }
 }
 
@@ -161,12 +202,13 @@ fn judge<L: Ledger>(
     readings: &Readings,
     after: &mut After,
     earlier: &mut Option<EarlierAnalysis>,
+    may_stay: bool,
     steps: &mut Steps<L>,
 ) -> Result<Judged, AllocError>
     requires readings { AreReadings (texts_of sources.now) readings.now }
     requires earlier { IsMaybeEarlier sources.now earlier.old }
     requires told { TellsNow sources.now earlier.old after.old }
-    ensures judged { IfOk result (IsJudged sources.now) }
+    ensures judged { IfOk result (IsJudged sources.now may_stay) }
     ensures left { IfOk result (IsLeftBy earlier.old earlier.new) }
     ensures cost { CostsBinding sources.now steps.old steps.new }
 {
@@ -174,34 +216,36 @@ fn judge<L: Ledger>(
     let told = mem::replace(after, After::Unknown);
     match analyse_told(alloc, sources, readings, told, earlier, steps)? {
         Analysed::Program { analysis, former } => {
-            Ok(judge_analysed(sources, analysis, former, earlier))
+            Ok(judge_analysed(sources, readings, analysis, former, earlier, may_stay))
         }
         Analysed::Fault(fault) => Ok(Judged::Wrong(fault)),
     }
 }
 
 // Gives files other texts, and what these read as, unless something is wrong with the sources that
-// have them: then the old texts and readings are there again, and so they are where memory is
+// have them, or they may not stay: then the old texts and readings are there again, and so they are where memory is
 // wanted. The texts that stay are not read again.
 fn try_by<L: Ledger>(
     alloc: Global,
     sources: &mut Sources,
     readings: &mut Readings,
-    changes: Vec<Change>,
+    texts: NewTexts,
     after: &mut After,
     earlier: &mut Option<EarlierAnalysis>,
     steps: &mut Steps<L>,
 ) -> Result<Tried, AllocError>
-    requires files { AreOfFiles (length sources.old) changes.items }
+    requires files { AreOfFiles (length sources.old) texts.changes.items }
     requires readings { AreReadings (texts_of sources.old) readings.old }
-    requires earlier { IsMaybeEarlier (put_back sources.old changes.items) earlier.old }
-    requires told { TellsNow (put_back sources.old changes.items) earlier.old after.old }
-    ensures tried { IfOk result (IsTried sources.old changes.items sources.new) }
+    requires earlier { IsMaybeEarlier (put_back sources.old texts.changes.items) earlier.old }
+    requires told { TellsNow (put_back sources.old texts.changes.items) earlier.old after.old }
+    ensures tried { IfOk result (IsTried sources.old texts.changes.items texts.may_stay
+        sources.new) }
     ensures err { OnErr result (sources.new ≡ sources.old) }
     ensures readings { AreReadings (texts_of sources.new) readings.new }
     ensures left { IfOk result (IsLeft earlier.old earlier.new) }
-    ensures cost { CostsBinding (put_back sources.old changes.items) steps.old steps.new }
+    ensures cost { CostsBinding (put_back sources.old texts.changes.items) steps.old steps.new }
 {
+    let NewTexts { changes, may_stay } = texts;
     let with = readings_of(alloc, changes.as_slice())?;
     let mut had = Vec::with_capacity(alloc, changes.len())?;
     let mut were = Vec::with_capacity(alloc, changes.len())?;
@@ -209,8 +253,12 @@ fn try_by<L: Ledger>(
     let mut spare = Vec::with_capacity(alloc, changes.len())?;
     let mut rest = Vec::with_capacity(alloc, changes.len())?;
     exchange_all(sources, readings, &mut had, &mut were, changes, with);
-    match judge(alloc, sources, readings, after, earlier, steps) {
+    match judge(alloc, sources, readings, after, earlier, may_stay, steps) {
         Ok(Judged::Sound(analysis)) => Ok(Tried::Sound { analysis, had }),
+        Ok(Judged::Crossed) => {
+            exchange_all(sources, readings, &mut spare, &mut rest, had, were);
+            Ok(Tried::Crossed)
+        }
         Ok(Judged::Wrong(fault)) => {
             exchange_all(sources, readings, &mut spare, &mut rest, had, were);
             Ok(Tried::Wrong(fault))
@@ -262,7 +310,7 @@ fn analysis_of(earlier: Option<EarlierAnalysis>) -> Option<Analysis>
 }
 
 /// Gives files other texts, and what these read as, unless something is wrong with the sources that
-/// have them: then the old texts and readings are there again, and so they are where memory is
+/// have them, or they may not stay: then the old texts and readings are there again, and so they are where memory is
 /// wanted. The texts that stay are not read again.
 ///
 /// `after` tells of the table of the sources that have the new texts, so that no other is made.
@@ -274,36 +322,34 @@ pub(crate) fn try_texts<L: Ledger>(
     sources: &mut Sources,
     readings: &mut Readings,
     analysed: &mut Option<Analysis>,
-    changes: Vec<Change>,
+    texts: NewTexts,
     after: &mut After,
     steps: &mut Steps<L>,
 ) -> Result<Tried, AllocError>
-    requires files { AreOfFiles (length sources.old) changes.items }
+    requires files { AreOfFiles (length sources.old) texts.changes.items }
     requires readings { AreReadings (texts_of sources.old) readings.old }
     requires analysed { IsKeptAnalysis sources.old analysed.old }
-    requires told { TellsTable (put_back sources.old changes.items) analysed.old after.old }
-    ensures tried { IfOk result (IsTried sources.old changes.items sources.new) }
+    requires told { TellsTable (put_back sources.old texts.changes.items) analysed.old after.old }
+    ensures tried { IfOk result (IsTried sources.old texts.changes.items texts.may_stay
+        sources.new) }
     ensures err { OnErr result (sources.new ≡ sources.old) }
     ensures readings { AreReadings (texts_of sources.new) readings.new }
     ensures analysed { IsKeptAnalysis sources.new analysed.new }
-    // Behind what is wrong, all that was analysed is: of these sources nothing is bound again.
+    // Where the old texts are there again, all that was analysed is: of these sources nothing is
+    // bound again.
     ensures filled { IfOk result (StaysFilled analysed.old analysed.new) }
-    ensures cost { CostsBinding (put_back sources.old changes.items) steps.old steps.new }
+    ensures cost { CostsBinding (put_back sources.old texts.changes.items) steps.old steps.new }
 {
-    let stays = unchanged(alloc, sources.count(), changes.as_slice())?;
+    let stays = unchanged(alloc, sources.count(), texts.changes.as_slice())?;
     let mut earlier = earlier_of(analysed.take(), stays);
-    match try_by(
-        alloc,
-        sources,
-        readings,
-        changes,
-        after,
-        &mut earlier,
-        steps,
-    ) {
+    match try_by(alloc, sources, readings, texts, after, &mut earlier, steps) {
         Ok(Tried::Wrong(fault)) => {
             *analysed = analysis_of(earlier);
             Ok(Tried::Wrong(fault))
+        }
+        Ok(Tried::Crossed) => {
+            *analysed = analysis_of(earlier);
+            Ok(Tried::Crossed)
         }
         Ok(Tried::Sound { analysis, had }) => {
             forget_earlier(earlier);

@@ -17,3 +17,6 @@ read_undo-requires c = word_is (view c.args.element.now) c.args.word.now (codes 
 
 pub read_redo-requires : goal.read_redo-requires
 read_redo-requires c = word_is (view c.args.element.now) c.args.word.now (codes "redo") c.requires (sym c.eq-else-eq-4.ensures ∙ c.if-eq-5.true)
+
+pub read_extract_local-requires : goal.read_extract_local-requires
+read_extract_local-requires c = word_is (view c.args.element.now) c.args.word.now (codes "extract_local") c.requires (sym c.eq-else-eq-5.ensures ∙ c.if-eq-6.true)

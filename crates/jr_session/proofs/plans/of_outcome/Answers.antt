@@ -1,8 +1,6 @@
 use Rattle.std.proofs.Common.{ap}
-use Rattle.std.specs.Prelude.{option_map}
 use Rattle.jr_names.specs.ReplyView.{outcome_of}
-use Rattle.jr_names.specs.SiteView.{pair_of}
 use Rattle.jr_session.proofs.plans.of_outcome.Goals as goal
 
 pub returns-in-Planned : goal.returns-in-Planned
-returns-in-Planned c = (c.in-Planned.renaming, option_map pair_of c.in-Planned.lost, ap outcome_of c.in-Planned.is)
+returns-in-Planned c = (c.in-Planned.renaming, ap outcome_of c.in-Planned.is)

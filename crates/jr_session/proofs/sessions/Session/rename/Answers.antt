@@ -6,7 +6,9 @@ use Rattle.jr_sources.specs.Asking.{CanStand, IsUnasked}
 use Rattle.jr_sources.specs.Sources.{HasName, IsFile}
 use Rattle.jr_session.specs.States.{State}
 use Rattle.jr_session.proofs.EditLaws.{file_of}
-use Rattle.jr_session.proofs.RenameSteps.{unasked_step}
+use Rattle.jr_session.specs.Asked.{rename}
+use Rattle.jr_session.proofs.RenameRequest.{cannot_rename}
+use Rattle.jr_session.proofs.RequestSteps.{unasked_step}
 use Rattle.jr_session.proofs.sessions.Session.rename.Goals as goal
 
 pub returns-in-Some-refusal-clause-step : goal.returns-in-Some-refusal-clause-step
@@ -14,4 +16,5 @@ returns-in-Some-refusal-clause-step g c =
     let named : HasName c.self.inside.sources c.in-Some.number c.args.file.now = subst (HasName c.self.inside.sources c.in-Some.number) c.as_str.ensures c.in-Some.ensures.found in
     let stands : IsFile c.self.inside.sources c.in-Some.number c.args.file.now c.text.result.now = file_of c.self.inside.sources c.in-Some.number c.args.file.now c.text.result.now named c.text.ensures in
     let why : IsUnasked c.args.file.now c.text.result.now c.args.at c.args.new.now (refusal_of c.in-Some-refusal.refusal) = subst (λ o. MatchOption o (CanStand c.text.result.now c.args.at × IsName c.args.new.now) (λ r. IsUnasked c.args.file.now c.text.result.now c.args.at c.args.new.now (refusal_of r))) c.in-Some-refusal.is c.in-Ok.ensures in
-    unasked_step c.args.self.now c.args.file.now c.args.at c.args.new.now c.in-Some.number c.text.result.now (subst (λ (s : State). IsFile s.files c.in-Some.number c.args.file.now c.text.result.now) c.self.view_is stands) (refusal_of c.in-Some-refusal.refusal) why
+    unasked_step c.args.self.now (rename c.args.file.now c.args.at c.args.new.now) c.in-Some.number c.text.result.now (subst (λ (s : State). IsFile s.files c.in-Some.number c.args.file.now c.text.result.now) c.self.view_is stands) (refusal_of c.in-Some-refusal.refusal)
+    (cannot_rename c.args.file.now c.text.result.now c.args.at c.args.new.now (refusal_of c.in-Some-refusal.refusal) why)

@@ -1,0 +1,76 @@
+-- How a type is written: by what is chosen for its class.
+use Rattle.std.proofs.Common.{◌≡◌, ℕ, zero, suc, Bool, true, false, List, [], ◌∷◌, map, Option, Some, None, codes, sym, ap, subst, ◌∙◌, inl, inr}
+use Rattle.std.specs.Prelude.{slice_get, option_to_list}
+use Rattle.std.proofs.lemmas.List.{append_assoc}
+use Rattle.jr_table.specs.Keys.{ClassKey}
+use Rattle.jr_table.specs.Decls.{class_decl}
+use Rattle.jr_table.specs.Rows.{Row}
+use Rattle.jr_table.specs.Context.{Context}
+use Rattle.jr_spell.specs.declared.references.RefForm.TheVariants as ref
+use Rattle.jr_spell.specs.declared.spellings.Form.{Form}
+use Rattle.jr_spell.specs.Spellings.{forms}
+use Rattle.jr_rewrite.specs.Respellings.{Front, same, alone, by_this, by_super, by_cast_this, by_class, by_outer_class, by_cast, Respelling, Choice, stays, becomes, loses}
+use Rattle.jr_images.specs.Spelling.{same_name, respelled, spelled, outer_type}
+use Rattle.jr_new_words.specs.declared.choices.Lost as raw_lost
+use Rattle.jr_new_words.specs.ChoiceView.{lost_of}
+use Rattle.jr_new_words.specs.Mappings.{Mapping}
+use Rattle.jr_new_words.specs.Ways.{MakesType}
+use Rattle.jr_extract_lists.specs.declared.written_types.WrittenType as raw
+use Rattle.jr_extract_lists.specs.WrittenTypes.{IsAsIs, IsRespelled, IsTypeFront, SpellsType, IsOfChoice}
+
+some_is : {X : Type 0} {x y : X} → (let a : Option X = Some x in a ≡ Some y) → x ≡ y
+some_is e = cc
+
+none_is : {X P : Type 0} {x : X} → (let a : Option X = None in a ≡ Some x) → P
+none_is e = absurd cc
+
+-- ---- what is chosen for a made type
+
+abbrev key : Option (List ℕ) → List ℕ → ClassKey
+key o name = record { outer = o; name = name }
+
+named_so : (b : Bool) (new : List ℕ) → SpellsType (let h : Choice = if b then stays else respelled new same in h)
+named_so true new = tt
+named_so false new = tt
+
+of_outer : (o : Option (List ℕ)) (name : List ℕ) → IsTypeFront (outer_type (key o name))
+of_outer None name = tt
+of_outer (Some o) name = tt
+
+of_form : (old new : List ℕ) (o : Option (List ℕ)) (name : List ℕ) (f : Form) (n : ℕ) → slice_get (forms ref.ClassName (class_decl (key o name))) n ≡ Some f → SpellsType (spelled old new (key o name) f)
+of_form old new o name f zero is = subst (λ (g : Form). SpellsType (spelled old new (key o name) g)) (some_is is) (named_so (same_name old new) new)
+of_form old new o name f (suc zero) is = subst (λ (g : Form). SpellsType (spelled old new (key o name) g)) (some_is is) tt
+of_form old new o name f (suc (suc zero)) is = subst (λ (g : Form). SpellsType (spelled old new (key o name) g)) (some_is is) (of_outer o name)
+of_form old new o name f (suc (suc (suc n))) is = none_is is
+
+pub made_spells : (rows : List Row) (g : Mapping) (c : Context) (at : ℕ) (k : ClassKey) (h : Choice) → MakesType rows g c at k h → SpellsType h
+made_spells rows g c at k h (inl (f, taken, is)) = subst SpellsType (sym is) (of_form k.name _ _ _ f taken.place taken.stands)
+made_spells rows g c at k h (inr (none, (f, finds, is))) = subst SpellsType (sym is) tt
+
+-- ---- what is written
+
+-- the losses of one
+lost_one : (l : raw_lost.Lost) (o : Option raw_lost.Lost) → o ≡ Some l → map lost_of (option_to_list o) ≡ lost_of l ∷ []
+lost_one l o e = ap (λ (x : Option raw_lost.Lost). map lost_of (option_to_list x)) e
+
+lost_none : (o : Option raw_lost.Lost) → o ≡ None → map lost_of (option_to_list o) ≡ []
+lost_none o e = ap (λ (x : Option raw_lost.Lost). map lost_of (option_to_list x)) e
+
+pub stays_so : (k : ClassKey) (w : raw.WrittenType) → IsAsIs k.name None w → IsOfChoice k stays w
+stays_so k w (text, count, lost) m = record { text = text; respelled = count; losses = lost_none w.lost lost }
+
+pub loses_so : (k : ClassKey) (l : raw_lost.Lost) (w : raw.WrittenType) → IsAsIs k.name (Some l) w → IsOfChoice k (loses (lost_of l)) w
+loses_so k l w (text, count, lost) m = record { text = text; respelled = count; losses = lost_one l w.lost lost }
+
+becomes_so : (f : Front) → IsTypeFront f → (text : List ℕ) (k : ClassKey) (w : raw.WrittenType) → IsRespelled (record { text = text; front = f }) w → IsOfChoice k (becomes (record { text = text; front = f })) w
+becomes_so same is text k w (as_text, count, lost) m = record { text = as_text; respelled = count; losses = lost_none w.lost lost }
+becomes_so alone is text k w (as_text, count, lost) m = record { text = as_text; respelled = count; losses = lost_none w.lost lost }
+becomes_so (by_class o) is text k w (as_text, count, lost) m = record { text = as_text ∙ append_assoc o (codes ".") text; respelled = count; losses = lost_none w.lost lost }
+becomes_so by_this is text k w h m = absurd is
+becomes_so by_super is text k w h m = absurd is
+becomes_so (by_cast_this q) is text k w h m = absurd is
+becomes_so (by_outer_class o q) is text k w h m = absurd is
+becomes_so (by_cast q) is text k w h m = absurd is
+
+pub respelled_so : (r : Respelling) → IsTypeFront r.front → (k : ClassKey) (w : raw.WrittenType) → IsRespelled r w → IsOfChoice k (becomes r) w
+respelled_so r is k w h = becomes_so r.front is r.text k w h
