@@ -104,7 +104,7 @@ def examples(program):
     wanted = re.findall(r"^\| `(Box\.\S+ \w+ \d+ \d+)` \|", page, re.MULTILINE)
     if lines != wanted:
         yield f"GUIDE: dependences of Box.java: {lines}"
-    if len(rows) < 13 or len(moves) < 8 or len(wanted) < 13:
+    if len(rows) < 13 or len(moves) < 6 or len(wanted) < 13:
         yield f"GUIDE: {len(rows)} renames, {len(moves)} extractions, {len(wanted)} dependences are too few"
 
 
