@@ -49,6 +49,9 @@ walk_statements-requires c = record {
   walks = some_list c.args.of.now c.args.here.now c.go-at.new.here c.make.new.here c.in_ok-at.at (renumbering_of c.args.inside.numbers.now) c.in_ok-at.ensures c.in_ok-make.ensures (map part_of c.args.inside.spots.now) (gathered c.args.piece) c.requires.walks;
 }
 
+pub single-requires : goal.single-requires
+single-requires c = (c.in_ok-ty.ensures c.args.of.now.value.now.mark).2.few
+
 pub returns : goal.returns
 returns c = λ p x begins same puts moves.
     let t = c.args.of.now in
@@ -60,4 +63,4 @@ returns c = λ p x begins same puts moves.
     let place = c.in_ok-at.ensures p x _ begins in
     let listed = c.in_ok-walk_statements.ensures p x a place.place.element_is puts in
     all_listed p t x (gathered c.args.piece) moves c.in_ok-ty.ty type.0 type.1 type.2 c.in_ok-put.put s.0.now.mark.from (first_mark p t x s.0.now (stmts_of s.1.now) c.statement_of.ensures) (value_mark p t x) _ (ap changes_of c.as_slice-changes.ensures.value) c.in_ok-put.ensures
-    (gathered c.in_ok-out.out) (gathered c.walk_statements.new.out) c.in_ok-out.ensures listed c.walk_statements.new.out refl
+    (gathered c.in_ok-out.out) (gathered c.walk_statements.new.out) c.in_ok-out.ensures listed c.walk_statements.new.out c.single.result c.single.ensures refl

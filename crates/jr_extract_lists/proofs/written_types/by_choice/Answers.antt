@@ -11,4 +11,4 @@ pub returns-in-Becomes : goal.returns-in-Becomes
 returns-in-Becomes c = IfOk-weaker c.respelled.result _ _ (λ w h. respelled_so (chosen_of c.in-Becomes.chosen) c.requires (class_key_of c.args.class.now) w h) c.respelled.ensures
 
 pub returns-in-Loses : goal.returns-in-Loses
-returns-in-Loses c = IfOk-weaker c.as_is-in-Loses.result _ _ (λ w h. loses_so (class_key_of c.args.class.now) c.in-Loses.lost w h) c.as_is-in-Loses.ensures
+returns-in-Loses c = IfOk-weaker c.as_lost.result _ _ (λ w h. loses_so (class_key_of c.args.class.now) c.in-Loses.lost w h) c.as_lost.ensures
