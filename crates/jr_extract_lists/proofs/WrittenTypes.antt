@@ -1,7 +1,6 @@
 -- How a type is written: by what is chosen for its class.
-use Rattle.std.proofs.Common.{◌≡◌, ℕ, zero, suc, Bool, true, false, List, [], ◌∷◌, length, ◌≤◌, map, Option, Some, None, codes, refl, sym, ap, subst, ◌∙◌, inl, inr}
-use Rattle.std.specs.Prelude.{slice_get}
-use Rattle.std.proofs.lemmas.List.{append_assoc}
+use Rattle.std.proofs.Common.{◌≡◌, ℕ, zero, suc, Bool, true, false, List, [], ◌∷◌, length, ◌≤◌, map, Option, Some, None, codes, refl, sym, ap, subst, ◌∙◌, inl, inr, arith}
+use Rattle.std.specs.Prelude.{slice_get, if◌then◌else◌}
 use Rattle.jr_text.specs.declared.spans.Span.{Span}
 use Rattle.jr_ast.specs.Tree as tree
 use Rattle.jr_grammar.specs.Layout.{itself}
@@ -14,7 +13,8 @@ use Rattle.jr_spell.specs.declared.spellings.Form.{Form}
 use Rattle.jr_spell.specs.Spellings.{forms}
 use Rattle.jr_rewrite.specs.Respellings.{Front, same, alone, by_this, by_super, by_cast_this, by_class, by_outer_class, by_cast, Respelling, Choice, stays, becomes, loses}
 use Rattle.jr_rewrite.specs.Rewritten.{plain, simple_type_out}
-use Rattle.jr_images.specs.Spelling.{same_name, respelled, spelled, outer_type}
+use Rattle.jr_table.specs.SameKeys.{same_name}
+use Rattle.jr_images.specs.Spelling.{respelled, spelled, outer_type}
 use Rattle.jr_new_words.specs.declared.choices.Lost as raw_lost
 use Rattle.jr_new_words.specs.ChoiceView.{lost_of}
 use Rattle.jr_new_words.specs.Mappings.{Mapping}
@@ -68,6 +68,10 @@ module _ (ls : List raw_lost.Lost) where
   none_few : ls ≡ [] → length ls ≤ 1
   none_few e = let n : length ls ≡ 0 = ap length e in omega (arith, n)
 
+-- in other words
+pub as_is_so : (text : List ℕ) (ls : List raw_lost.Lost) (w : raw.WrittenType) (new : List ℕ) (now : List raw_lost.Lost) → text ≡ new → ls ≡ now → IsAsIs text ls w → IsAsIs new now w
+as_is_so text ls w new now one two (a, b, c) = (a ∙ one, b, c ∙ two)
+
 pub stays_so : (k : ClassKey) (w : raw.WrittenType) → IsAsIs k.name [] w → IsOfChoice k stays w
 stays_so k w (text, count, lost) m = record { text = text; respelled = count; losses = lost_none w.losses.items lost; few = none_few w.losses.items lost }
 
@@ -77,7 +81,7 @@ loses_so k l w (text, count, lost) m = record { text = text; respelled = count; 
 becomes_so : (f : Front) → IsTypeFront f → (text : List ℕ) (k : ClassKey) (w : raw.WrittenType) → IsRespelled (record { text = text; front = f }) w → IsOfChoice k (becomes (record { text = text; front = f })) w
 becomes_so same is text k w (as_text, count, lost) m = record { text = as_text; respelled = count; losses = lost_none w.losses.items lost; few = none_few w.losses.items lost }
 becomes_so alone is text k w (as_text, count, lost) m = record { text = as_text; respelled = count; losses = lost_none w.losses.items lost; few = none_few w.losses.items lost }
-becomes_so (by_class o) is text k w (as_text, count, lost) m = record { text = as_text ∙ append_assoc o (codes ".") text; respelled = count; losses = lost_none w.losses.items lost; few = none_few w.losses.items lost }
+becomes_so (by_class o) is text k w (as_text, count, lost) m = record { text = as_text; respelled = count; losses = lost_none w.losses.items lost; few = none_few w.losses.items lost }
 becomes_so by_this is text k w h m = absurd is
 becomes_so by_super is text k w h m = absurd is
 becomes_so (by_cast_this q) is text k w h m = absurd is

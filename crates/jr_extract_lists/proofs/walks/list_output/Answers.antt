@@ -15,7 +15,7 @@ pub list_by-requires : goal.list_by-requires
 list_by-requires c =
     let t = c.args.of.now in
     let inner = c.renumbered-inner.ensures ∙ ap (λ (m : MadeLocal). numbers c.as_slice-kept.result.now c.in_ok-next.next (m ∷ []) c.args.at.now.depth) c.made_local.ensures in
-    let puts = λ (p : Program Span) (x : IsTarget p t). puts_name p t x _ (string_bytes c.in_ok-text.text) refl c.as_str-bytes.ensures c.as_str-bytes.ensures refl c.in_ok-text.ensures in
+    let puts = λ (p : Program Span) (x : IsTarget p t). puts_name p t x _ (string_bytes c.in_ok-text.text) refl c.as_str-bytes.ensures.value c.as_str-bytes.ensures.value refl c.in_ok-text.ensures in
     subst (λ (o : Renumbering). FramesList t o _ _ _) (sym c.renumbered-outer.ensures)
     (subst (λ (r : Renumbering). FramesList t _ r _ _) (sym inner)
     (piece_frames t c.as_slice-kept.result.now c.in_ok-next.next c.in_ok-next.ensures c.args.at.now (gathered c.args.piece) _ (c.as_slice-kept.ensures.value ∙ c.in_ok-firsts.ensures) puts c.requires))
@@ -28,4 +28,4 @@ returns c = λ p x place moves.
     c.list_by.ensures p x
     (c.renumbered-outer.ensures ∙ outer_list p t x c.as_slice-kept.result.now c.in_ok-next.next c.in_ok-next.ensures are)
     (inner ∙ inner_list p t x c.as_slice-kept.result.now c.in_ok-next.next c.in_ok-next.ensures are c.args.at.now.depth (sym place.scope))
-    (puts_name p t x _ (string_bytes c.in_ok-text.text) refl c.as_str-bytes.ensures c.as_str-bytes.ensures refl c.in_ok-text.ensures) moves
+    (puts_name p t x _ (string_bytes c.in_ok-text.text) refl c.as_str-bytes.ensures.value c.as_str-bytes.ensures.value refl c.in_ok-text.ensures) moves
