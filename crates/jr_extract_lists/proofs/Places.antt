@@ -116,10 +116,10 @@ module _ (p : Program Span) (t : raw.Target) (x : IsTarget p t) where
 
 -- of some program
 pub known_tables : (t : raw.Target) → CanWalk t → AreTables t.body.tables
-known_tables t (p, x, h) = tables_are p t x
+known_tables t (p, (x, h)) = tables_are p t x
 
 pub known_statement : (t : raw.Target) → CanWalk t → HasStatement t
-known_statement t (p, x, h) = has_statement p t x
+known_statement t (p, (x, h)) = has_statement p t x
 
 -- a list with a statement is not empty
 empty : (l : List (Stmt Span)) → length l ≡ 0 → (s : statement.Stmt Span) (ss : statement.Stmts Span) → stmts_of l ≡ statement.more s ss → ⊥

@@ -4,7 +4,7 @@ use Rattle.jr_extract_lists.proofs.Places.{no_statement}
 use Rattle.jr_extract_lists.proofs.walks.statement_of.Goals as goal
 
 pub returns : goal.returns
-returns c = ap stmts_of c.in-Some.ensures.0
+returns c = ap stmts_of c.in-Some.ensures.cases.0
 
 pub unreachable-requires : goal.unreachable-requires
-unreachable-requires c = no_statement c.args.of.now c.in-None.ensures c.requires
+unreachable-requires c = no_statement c.args.of.now c.in-None.ensures.cases c.requires

@@ -5,6 +5,7 @@ use Rattle.jr_rewrite.specs.ChangeView.{changes_of}
 use Rattle.jr_new_words.specs.MappingView.{renumbering_of}
 use Rattle.jr_new_bodies.specs.OutputView.{gathered}
 use Rattle.jr_new_bodies.specs.SpotView.{part_of}
+use Rattle.jr_extract_lists.specs.Walked.{from_there}
 use Rattle.jr_extract_lists.proofs.Places.{known_statement}
 use Rattle.jr_extract_lists.proofs.Walking.{list_known, list_makes, list_can, list_type, list_begins, list_fits, the_list, some_list, first_mark, value_mark}
 use Rattle.jr_extract_lists.proofs.Listing.{writes, all_listed}
@@ -60,7 +61,7 @@ returns c = λ p x begins same puts moves.
     let three = c.make.new.here in
     let a = the_list t c.args.here.now c.go.new.here three c.in_ok-at.at r c.in_ok-at.ensures c.in_ok-make.ensures p x begins same in
     let type = writes p t x c.selected_are_ready.ensures c.types_are_written.ensures three a c.in_ok-ty.ty c.in_ok-ty.ensures in
-    let place = c.in_ok-at.ensures p x _ begins in
+    let place = c.in_ok-at.ensures p x (from_there x) begins in
     let listed = c.in_ok-walk_statements.ensures p x a place.place.element_is puts in
     all_listed p t x (gathered c.args.piece) moves c.in_ok-ty.ty type.0 type.1 type.2 c.in_ok-put.put s.0.now.mark.from (first_mark p t x s.0.now (stmts_of s.1.now) c.statement_of.ensures) (value_mark p t x) _ (ap changes_of c.as_slice-changes.ensures.value) c.in_ok-put.ensures
     (gathered c.in_ok-out.out) (gathered c.walk_statements.new.out) c.in_ok-out.ensures listed c.walk_statements.new.out c.single.result c.single.ensures refl
