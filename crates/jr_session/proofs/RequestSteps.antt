@@ -126,13 +126,13 @@ module _ (s : State) (ask : Request) where
     refused_step r h = (why.by_plan h.p number h.text (record { asked = asked_of h.text h.has; program = h.program }) h.refused, refl)
 
     module _ (edits : List (List Entry)) (respelled : ℕ) (lost : Option DepPair) (plan : ArePlanned s.files ask number edits respelled lost) where
-      the_plan : IsPlan s ask edits respelled
+      abbrev the_plan : IsPlan s ask edits respelled
       the_plan = record { p = plan.p; number = number; text = plan.text; posed = record { asked = asked_of plan.text plan.has; program = plan.program }; renaming = plan.renaming; planned = plan.planned }
 
-      short : StayWithin s.files edits → IsShort s ask edits respelled
+      abbrev short : StayWithin s.files edits → IsShort s ask edits respelled
       short h = record { plan = the_plan; within = h.within; together = h.together }
 
-      whole : StayWithin s.files edits → AreWhole (with_edits s.files edits) → IsWhole s ask edits respelled
+      abbrev whole : StayWithin s.files edits → AreWhole (with_edits s.files edits) → IsWhole s ask edits respelled
       whole h w = record { short = short h; sound = w.right; q = w.some.0; program = w.some.1 }
 
       abbrev Crosses : DepKind → SiteAt → SiteAt → Type 0
