@@ -15,8 +15,8 @@
 //! the old ones go on two lists; each step takes the room for the lists first, so that nothing
 //! fails once it has begun. `plans` analyses and plans; `refactorings` makes the edits, whatever
 //! planned them, and refuses them for a lost dependence behind all that is wrong with what they
-//! make; `made`: the new texts, or the length that is too long; `tries` reads and binds the new program,
-//! and puts all back where something is wrong. `laws`: one reply and one state a step
+//! make; `made`: the new texts, or the length that is too long; `tries` reads and binds the new
+//! program, and puts all back where something is wrong. `laws`: one reply and one state a step
 //! (`step_has_one_answer`), the first reason of a refusal (`renames_are_refused_first`), what an
 //! accepted refactoring promises, from its step alone (`accepted_refactorings_keep_programs`).
 #![tactic(auto)]
