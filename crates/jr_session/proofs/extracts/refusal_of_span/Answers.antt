@@ -18,10 +18,10 @@ pub returns-then-can_stand : goal.returns-then-can_stand
 returns-then-can_stand c =
     let first : CanStand c.args.text.now c.args.from = c.can_stand.ensures.0 c.if-not-can_stand.false in
     let second : CanStand c.args.text.now c.args.to = c.can_stand-2.ensures.0 c.if-can_stand.true in
-    IfOk-weaker c.bad_place.result _ _ (λ found h. finds_bad c.args.file.now c.args.text.now c.args.from c.args.to c.args.new.now (turned_round c.args.file.now c.args.text.now c.args.from c.args.to c.args.new.now first second c.if-from-to.false) found h) c.bad_place.ensures
+    IfOk-weaker c.bad_place-then-can_stand.result _ _ (λ found h. finds_bad c.args.file.now c.args.text.now c.args.from c.args.to c.args.new.now (turned_round c.args.file.now c.args.text.now c.args.from c.args.to c.args.new.now first second c.if-from-to.false) found h) c.bad_place-then-can_stand.ensures
 
 pub returns : goal.returns
 returns c =
     let first : CanStand c.args.text.now c.args.from = c.can_stand.ensures.0 c.if-not-can_stand.false in
     let none : CanStand c.args.text.now c.args.to → ⊥ = not_from_Decides c.can_stand-2.result c.can_stand-2.ensures c.if-can_stand.false in
-    IfOk-weaker c.refusal_of_request.result _ _ (λ found h. finds_of_second c.args.file.now c.args.text.now c.args.from c.args.to c.args.new.now first (λ s. absurd (none s)) found h) c.refusal_of_request.ensures
+    IfOk-weaker c.refusal_of_request-2.result _ _ (λ found h. finds_of_second c.args.file.now c.args.text.now c.args.from c.args.to c.args.new.now first (λ s. absurd (none s)) found h) c.refusal_of_request-2.ensures
