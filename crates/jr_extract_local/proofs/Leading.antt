@@ -166,22 +166,22 @@ module _ (p : Program Span) (t : raw.Target) (x : IsTarget p t) where
 
 module _ (t : raw.Target) (at : raw_place.StatementPlace) where
   pub is_shallow : HasPlace t at → 1 ≤ at.element.depth
-  is_shallow (p, x, h) = shallow p t x at h
+  is_shallow (p, (x, h)) = shallow p t x at h
 
   pub around_in : HasPlace t at → at.element.depth - 1 ≤ length t.path.now.steps.items
-  around_in (p, x, h) = around_fits p t x at h
+  around_in (p, (x, h)) = around_fits p t x at h
 
   pub outer_in : HasPlace t at → at.element.depth ≤ length t.path.now.steps.items
-  outer_in (p, x, h) = path_fits p t x at h
+  outer_in (p, (x, h)) = path_fits p t x at h
 
   pub leads_to_value : HasPlace t at → LeadsToExp (member_of t.member.now) t.path.now.steps.items
-  leads_to_value (p, x, h) = to_value p t x
+  leads_to_value (p, (x, h)) = to_value p t x
 
   pub leads_in : HasPlace t at → (outer inner : List ℕ) → outer ≡ take at.element.depth t.path.now.steps.items → inner ≡ drop at.element.depth t.path.now.steps.items → Leads (member_of t.member.now) (outer ++ inner)
-  leads_in (p, x, h) outer inner outer_same inner_same =
+  leads_in (p, (x, h)) outer inner outer_same inner_same =
       value_in p t x outer inner (sym (take-append-drop at.element.depth t.path.now.steps.items) ∙ (λ i. sym outer_same i ++ sym inner_same i))
 
   pub leads_to_parts : HasPlace t at → (around : List ℕ) (to : ℕ) → around ≡ take (at.element.depth - 1) t.path.now.steps.items → to ≡ at.element.step + 1 → LeadsToParts (member_of t.member.now) around at.element.step to
-  leads_to_parts (p, x, h) around to around_same to_same =
+  leads_to_parts (p, (x, h)) around to around_same to_same =
       let behind : to ≡ suc at.element.step = omega (arith, to_same) in
       to_parts p t x at h around at.element.step to (around_same ∙ around_is p t x at h) refl behind

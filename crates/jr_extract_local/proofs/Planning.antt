@@ -78,7 +78,7 @@ module _ (p : Program Span) (t : raw.Target) (x : IsTarget p t) where
 
     -- ---- nothing is lost
 
-    plan : Whole → type.losses ≡ [] → o.losses ≡ [] → (edits : List (List Entry)) → AreFileEdits (length p.files) file (entries_of o.changes) edits → (respelled : ℕ) → respelled ≡ o.respelled → IsPlanned p (extract_local p file from to name) edits [] respelled
+    abbrev plan : Whole → type.losses ≡ [] → o.losses ≡ [] → (edits : List (List Entry)) → AreFileEdits (length p.files) file (entries_of o.changes) edits → (respelled : ℕ) → respelled ≡ o.respelled → IsPlanned p (extract_local p file from to name) edits [] respelled
     plan w no_type none edits are respelled counted = record {
       found = found;
       dispatch = w.dispatch;
@@ -142,4 +142,4 @@ module _ (p : Program Span) (t : raw.Target) (x : IsTarget p t) where
 
 -- of some target of the program, as calls ask it
 pub some_place : (p : Program Span) (t : raw.Target) (at : raw_place.StatementPlace) (changes : List raw_change.Change) (n : ℕ) → IsOfList p t at changes n → HasPlace t at
-some_place p t at changes n (x, place, kept) = (p, x, place)
+some_place p t at changes n (x, place, kept) = (p, (x, place))

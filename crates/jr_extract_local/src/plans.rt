@@ -130,8 +130,8 @@ fn of_selected<'a, V: View<Span>>(
     requires name { IsName request.name.now }
     requires found { IsFound (V.program view.now) request.file request.from request.to
         request.name.now (chosen_of selected.now) number }
-    ensures { IfOk result (λ o. Plans (V.program view.now) request.file request.from request.to
-        request.name.now (outcome_of o)) }
+    ensures { IfOk result (λ o. Plans (V.program view.now) request.entry.file request.entry.from
+        request.entry.to request.entry.name.now (outcome_of o)) }
 {
     let written = written_at(members, selected.member);
     let target = target_of(view, written, request, selected, number);
@@ -160,8 +160,8 @@ fn plan_among<V: View<Span>>(
     requires members { map written_of members.now ≡ members_of (V.program view.now) }
     requires file { request.file < length (V.program view.now).files }
     requires name { IsName request.name.now }
-    ensures { IfOk result (λ o. Plans (V.program view.now) request.file request.from request.to
-        request.name.now (outcome_of o)) }
+    ensures { IfOk result (λ o. Plans (V.program view.now) request.entry.file request.entry.from
+        request.entry.to request.entry.name.now (outcome_of o)) }
 {
     let found = extract_found(
         alloc,

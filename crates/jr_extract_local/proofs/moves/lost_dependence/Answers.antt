@@ -9,14 +9,14 @@ use Rattle.jr_extract_local.proofs.Leading.{leads_to_value}
 use Rattle.jr_extract_local.proofs.Losing.{flags_tell, exp_answers, lost}
 use Rattle.jr_extract_local.proofs.moves.lost_dependence.Goals as goal
 
-pub own_flags-flags-requires : goal.own_flags-flags-requires
-own_flags-flags-requires c = record { fits = sites_fit 0 (member_of c.args.of.now.member.now) }
+pub own_flags-requires : goal.own_flags-requires
+own_flags-requires c = record { fits = sites_fit 0 (member_of c.args.of.now.member.now) }
 
-pub sites_in_front-before-requires : goal.sites_in_front-before-requires
-sites_in_front-before-requires c = c.requires
+pub sites_in_front-requires : goal.sites_in_front-requires
+sites_in_front-requires c = c.requires
 
-pub footprint-moved-requires : goal.footprint-moved-requires
-footprint-moved-requires c = record {
+pub footprint-requires : goal.footprint-requires
+footprint-requires c = record {
   fits = sites_fit 0 (member_of c.args.of.now.member.now);
   at = leads_to_value c.args.of.now c.args.at.now c.requires;
 }
@@ -28,5 +28,6 @@ returns c = λ p x same h.
     let flags = c.as_slice-never_null.result.now in
     let tell = flags_tell p t x c.members_are_written.ensures c.own_flags_tell.ensures rows same flags (c.as_slice-never_null.ensures.value ∙ c.in_ok-flags.ensures.exact) in
     let front = c.in_ok-before.ensures p x same h in
-    let moved = λ o. exp_answers p t x rows flags same o t.path.now.steps.items c.in_ok-moved.moved.items (λ e there. c.in_ok-moved.ensures o e there) in
-    IfOk-weaker c.lost_pair.result _ (λ q. IsLost x (option_map pair_of q)) (λ q pair. lost p t x c.args.at.now h c.members_are_written.ensures c.extracts_lose.ensures flags tell c.in_ok-before.before.items c.in_ok-moved.moved.items front moved (option_map pair_of q) pair) c.lost_pair.ensures
+    IfOk-weaker c.lost_pair.result _
+    (λ q. IsLost x (option_map pair_of q)) (λ q pair. lost p t x c.args.at.now h c.members_are_written.ensures c.extracts_lose.ensures flags tell c.in_ok-before.before.items c.in_ok-moved.moved.items front
+    (λ o. exp_answers p t x rows flags same o t.path.now.steps.items c.in_ok-moved.moved.items (λ e there. c.in_ok-moved.ensures o e there)) (option_map pair_of q) pair) c.lost_pair.ensures

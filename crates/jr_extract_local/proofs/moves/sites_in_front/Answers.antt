@@ -5,23 +5,23 @@ use Rattle.jr_extract_local.proofs.Leading.{is_shallow, around_in, outer_in, lea
 use Rattle.jr_extract_local.proofs.Losing.{stmts_answer, front_answers, in_front}
 use Rattle.jr_extract_local.proofs.moves.sites_in_front.Goals as goal
 
-pub path_to-around-requires : goal.path_to-around-requires
-path_to-around-requires c = around_in c.args.of.now c.args.at.now c.requires
+pub path_to-requires : goal.path_to-requires
+path_to-requires c = around_in c.args.of.now c.args.at.now c.requires
 
-pub path_to-outer-requires : goal.path_to-outer-requires
-path_to-outer-requires c = outer_in c.args.of.now c.args.at.now c.requires
+pub path_to-requires-2 : goal.path_to-requires-2
+path_to-requires-2 c = outer_in c.args.of.now c.args.at.now c.requires
 
-pub path_behind-inner-requires : goal.path_behind-inner-requires
-path_behind-inner-requires c = outer_in c.args.of.now c.args.at.now c.requires
+pub path_behind-requires : goal.path_behind-requires
+path_behind-requires c = outer_in c.args.of.now c.args.at.now c.requires
 
-pub sites_before-count-requires : goal.sites_before-count-requires
-sites_before-count-requires c = record {
+pub sites_before-requires : goal.sites_before-requires
+sites_before-requires c = record {
   fits = sites_fit 0 (member_of c.args.of.now.member.now);
   at = leads_in c.args.of.now c.args.at.now c.requires c.in_ok-outer.outer.steps.items c.in_ok-inner.inner.steps.items c.in_ok-outer.ensures c.in_ok-inner.ensures;
 }
 
-pub footprint_of-sites-requires : goal.footprint_of-sites-requires
-footprint_of-sites-requires c = record {
+pub footprint_of-requires : goal.footprint_of-requires
+footprint_of-requires c = record {
   fits = sites_fit 0 (member_of c.args.of.now.member.now);
   at = leads_to_parts c.args.of.now c.args.at.now c.requires c.in_ok-around.around.steps.items c.in_ok-behind.behind c.in_ok-around.ensures c.in_ok-behind.ensures;
 }

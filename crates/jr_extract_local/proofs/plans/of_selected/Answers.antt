@@ -1,8 +1,10 @@
 use Rattle.std.proofs.Common.{sym, subst}
 use Rattle.std.specs.Prelude.{IfOk}
+use Rattle.jr_lex.specs.Replacing.{IsName}
 use Rattle.jr_members.specs.PartView.{written_of}
 use Rattle.jr_names.specs.ReplyView.{outcome_of}
 use Rattle.jr_local_finds.specs.ValueView.{chosen_of}
+use Rattle.jr_extract_local.specs.Plans.{Plans}
 use Rattle.jr_extract_local.proofs.Selected.{is_there, member_of}
 use Rattle.jr_extract_local.proofs.plans.of_selected.Goals as goal
 
@@ -20,7 +22,12 @@ target_of-target-requires g c =
     }
 
 pub of_target-requires : goal.of_target-requires
-of_target-requires g c = record { name = c.requires.name; target = c.target_of-target.ensures }
+of_target-requires g c = record {
+  name = subst (λ r. IsName r.name.now) (sym c.target_of-target.ensures.request) c.requires.name;
+  target = c.target_of-target.ensures.target;
+}
 
 pub returns : goal.returns
-returns g c = c.of_target.ensures
+returns g c =
+    let p = g.V.View.program c.args.view.now in
+    subst (λ r. IfOk c.of_target.result (λ o. Plans p r.file r.from r.to r.name.now (outcome_of o))) c.target_of-target.ensures.request c.of_target.ensures

@@ -8,8 +8,8 @@ use Rattle.jr_local_finds.specs.ExtractView.{extracted_of}
 use Rattle.jr_extract_local.specs.Plans.{Plans}
 use Rattle.jr_extract_local.proofs.plans.plan_among.Goals as goal
 
-pub extract_found-found-requires : goal.extract_found-found-requires
-extract_found-found-requires g c = c.requires.members
+pub extract_found-requires : goal.extract_found-requires
+extract_found-requires g c = c.requires.members
 
 pub of_selected-outcome-requires : goal.of_selected-outcome-requires
 of_selected-outcome-requires g c =
