@@ -82,8 +82,7 @@ module _ (names : NamesAreBound) (on : WaysGoOn) (own : LocalsHaveTheirNames) (s
         let r = (refer b.at.base (local_decl k) rs).each q.0 y.span.from q.1 in
         let place : y.span.from ≡ b.at.base + r.0 = r.1 in
         let from : y.span.from ≡ w.mark.from = ap (λ (s : Span). s.from) at_word in
-        let at : w.mark.from - b.at.base ≡ r.0 = omega (arith, from, place) in
-        (
+        let at : w.mark.from - b.at.base ≡ r.0 = omega (arith, from, place) in (
           record { at = tree.name y.span w; way = h.way; names = record { mark = y.span; word = w; is = refl; bound = finds_there y.span w h.way (ap (decl_in rs) at ∙ r.2) } },
           record { span = refl; used = sym h.used; barred = sym (h.barred (behind_it x).base) },
         )
@@ -92,11 +91,11 @@ module _ (names : NamesAreBound) (on : WaysGoOn) (own : LocalsHaveTheirNames) (s
 
     module _ (size : ℕ) (size_is : size ≡ x.declares.word.mark.to - x.declares.word.mark.from) (ys : List search.Naming) (gathered : AreGathered places size el.rest ys) where
       record IsToldAs (f : tree.Exp Span) (e : ListWay f el.rest) : Type 0 where
-        as : search.Naming
-        among : Among ys as
-        span : exp_mark f ≡ as.span
-        used : list_use e ≡ as.usage
-        barred : list_barred begins (behind_it x).base None e ≡ as.bar
+        name : search.Naming
+        among : Among ys name
+        span : exp_mark f ≡ name.span
+        used : list_use e ≡ name.usage
+        barred : list_barred begins (behind_it x).base None e ≡ name.bar
 
       abbrev Way : tree.Exp Span → Type 0
       Way f = ListWay f el.rest
@@ -109,7 +108,7 @@ module _ (names : NamesAreBound) (on : WaysGoOn) (own : LocalsHaveTheirNames) (s
           let ends = list_ends (tree.name y.span w) el.rest h.way 0 ∙ span ∙ sym (list_ends f el.rest e 0) in
           let same : IsOneWay h.way e = one_way itself (record { from = 0; to = nested.to }) 1 el.rest nested.nested (tree.name y.span w) f h.way e ends in
           record {
-            as = y;
+            name = y;
             among = among;
             span = sym span;
             used = sym (h.used ∙ ap (λ (z : In Way). list_use z.way) same);
@@ -144,7 +143,7 @@ module _ (names : NamesAreBound) (on : WaysGoOn) (own : LocalsHaveTheirNames) (s
       pub are_namings : AreNamings x ys
       are_namings = record {
         each = λ y among. let h = gathered.are.each y among in told y h.0 h.1;
-        all = λ n. let h = is_told n in (h.as, h.among, record { span = h.span; used = h.used; barred = h.barred });
+        all = λ n. let h = is_told n in (h.name, h.among, record { span = h.span; used = h.used; barred = h.barred });
         rise = gathered.are.rise are.rise;
       }
 

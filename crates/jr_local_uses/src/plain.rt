@@ -44,7 +44,8 @@ pub fn path_of(alloc: Global, code: &Code<'_>, span: &Span) -> Result<Path, Allo
     none_has_the_span();
     one_way_has_a_span::<Span>();
     let mut steps = Vec::new(alloc);
-    find(span, code.front, code.list, &mut steps)?;
+    let found = find(span, code.front, code.list, &mut steps)?;
+    drop(found);
     Ok(Path { steps })
 }
 
@@ -70,6 +71,8 @@ pub fn reads_alone(
     footprints_are_of_body();
     let path = path_of(alloc, code, &value.mark)?;
     let flags = own_flags(alloc, table, member, 0, bound)?;
-    let sites = footprint(alloc, table, member, 0, &path, bound, flags.as_slice())?;
-    Ok(is_plain(sites.as_slice()))
+    let never_null = flags.as_slice();
+    let sites = footprint(alloc, table, member, 0, &path, bound, never_null)?;
+    let all = sites.as_slice();
+    Ok(is_plain(all))
 }

@@ -100,14 +100,10 @@ fn init_is_plain<V: View<Span>>(
             let written = written_at(members, asked.declared.member);
             let member = member_in(&written.part);
             let bound = view.bound(asked.declared.member);
-            reads_alone(
-                alloc,
-                view.table(),
-                bound,
-                member,
-                &asked.declared.code,
-                head.init,
-            )
+            let table = view.table();
+            let code = asked.declared.code;
+            let is_plain = reads_alone(alloc, table, bound, member, &code, head.init)?;
+            Ok(is_plain)
         }
     }
 }
@@ -136,7 +132,8 @@ fn uses_of<V: View<Span>>(
 {
     let is_plain = init_is_plain(alloc, view, members, asked)?;
     let namings = local_namings(alloc, view, members, asked)?;
-    let place = place_among(is_plain, asked, namings.as_slice());
+    let names = namings.as_slice();
+    let place = place_among(is_plain, asked, names);
     Ok(Uses { namings, place })
 }
 

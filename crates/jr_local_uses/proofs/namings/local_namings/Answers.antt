@@ -28,17 +28,17 @@ bound-bound-requires g c =
     let t = c.requires.there in
     bound_there p t.0 (local_key_of c.args.asked.now.key) (declared_of c.args.asked.now.declared) t.1
 
-pub returns-in-Some : goal.returns-in-Some
-returns-in-Some g c = λ file h.
+pub returns-in_ok-places-in-Some : goal.returns-in_ok-places-in-Some
+returns-in_ok-places-in-Some g c = λ file h.
     let p = g.V.View.program c.args.view.now in
     let k = local_key_of c.args.asked.now.key in
     let x = declared_of c.args.asked.now.declared in
     let start = start_is p file k x h c.args.members.now c.requires.members c.written_at-written.result.now c.written_at-written.ensures c.first_byte-start.result c.first_byte-start.ensures in
     let bound = bound_is p file k x h c.bound-bound.result.now c.bound-bound.ensures in
-    let places : ArePlaces h.base (local_decl k) h.bound.references c.in_ok-places.places.items =
-        subst (λ (rs : List Reference). ArePlaces h.base (local_decl k) rs c.in_ok-places.places.items) (ap (λ (b : Bound). b.references) bound)
-        (subst (λ (n : ℕ). ArePlaces n (local_decl k) c.bound-bound.result.now.references c.in_ok-places.places.items) start c.in_ok-places.ensures) in
+    let places : ArePlaces h.base (local_decl k) h.bound.references c.in_ok-places-in-Some.places.items =
+    subst (λ (rs : List Reference). ArePlaces h.base (local_decl k) rs c.in_ok-places-in-Some.places.items) (ap (λ (b : Bound). b.references) bound)
+    (subst (λ (n : ℕ). ArePlaces n (local_decl k) c.bound-bound.result.now.references c.in_ok-places-in-Some.places.items) start c.in_ok-places-in-Some.ensures) in
     let head = head_is p file k x h c.declaration_head.result c.in-Some.head c.declaration_head.ensures c.in-Some.is in
     IfOk-weaker c.gathered.result _ _ (λ v are.
-        names_are c.names_are_bound.ensures c.ways_go_on.ensures c.bodies_begin_below.ensures c.locals_have_their_names.ensures c.bodies_are_spelled.ensures c.references_have_places.ensures c.one_way_has_a_span.ensures
-        p c.keeps_program.ensures file k x h c.in_ok-places.places.items places (head_of c.in-Some.head) head (map naming_of v.items) are) c.gathered.ensures
+    names_are c.names_are_bound.ensures c.ways_go_on.ensures c.bodies_begin_below.ensures c.locals_have_their_names.ensures c.bodies_are_spelled.ensures c.references_have_places.ensures c.one_way_has_a_span.ensures
+    p c.keeps_program.ensures file k x h c.in_ok-places-in-Some.places.items places (head_of c.in-Some.head) head (map naming_of v.items) are) c.gathered.ensures

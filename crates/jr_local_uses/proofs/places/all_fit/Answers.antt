@@ -7,8 +7,7 @@ use Rattle.jr_local_uses.proofs.places.all_fit.Goals as goal
 pub loop-at-preserved : goal.loop-at-preserved
 loop-at-preserved c =
     let here = c.fits.ensures c.if-not-fits.false in
-    All-more (λ (n : ℕ). n + c.args.size < 2 ^ 32) c.args.places.now c.loop-at.at-index c.at-item.result c.loop-at-test.true c.loop-at.invariant
-    (subst (λ (n : ℕ). n + c.args.size < 2 ^ 32) c.at-item.is here)
+    All-more (λ (n : ℕ). n + c.args.size < 2 ^ 32) c.args.places.now c.loop-at.at-index _ c.loop-at-test.true c.loop-at.invariant here
 
 pub returns : goal.returns
 returns c =
