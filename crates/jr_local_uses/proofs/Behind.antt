@@ -3,8 +3,7 @@
 -- A name that is told stands at such a place, so binding has the local there, and the name finds it
 -- where it stands (`told`). A name that finds the local stands at a place of it, has its bytes, and
 -- so one that is told has its span; two of one span are one (`by_name`).
-use Rattle.std.proofs.Common.{◌≡◌, ℕ, ◌+◌, ◌-◌, ◌<◌, ◌≤◌, ◌^◌, List, length, Option, Some, None, refl, sym, ap, subst, ◌∙◌, arith}
-use Rattle.std.specs.Prelude.{slice_get}
+use Rattle.std.proofs.Common.{◌≡◌, ℕ, ◌+◌, ◌-◌, ◌<◌, ◌^◌, List, length, Some, None, refl, sym, ap, subst, ◌∙◌, arith}
 use Rattle.jr_text.specs.declared.spans.Span.{Span}
 use Rattle.jr_ast.specs.Tree as tree
 use Rattle.jr_ast.specs.StatementTree as statement
@@ -18,7 +17,7 @@ use Rattle.jr_bind.specs.Bounds.{Reference, decl_in}
 use Rattle.jr_bind.specs.Programs.{Program, IsProgram}
 use Rattle.jr_pieces.specs.Ways.{ListWay}
 use Rattle.jr_pieces.specs.Standings.{Standing, at_list}
-use Rattle.jr_pieces.specs.Uses.{Use, list_use}
+use Rattle.jr_pieces.specs.Uses.{list_use}
 use Rattle.jr_pieces.specs.Bars.{list_barred}
 use Rattle.jr_pieces.specs.Nearest.{Element}
 use Rattle.jr_told_ways.specs.Told.{In, IsOneWay, OneWayHasASpan}
@@ -26,7 +25,7 @@ use Rattle.jr_bodies.specs.Bodies.{begins, Body}
 use Rattle.jr_local_search.specs.Namings as search
 use Rattle.jr_local_search.specs.Namings.{Among, IsNaming}
 use Rattle.jr_local_search.proofs.Paths.{list_ends}
-use Rattle.jr_local_moves.specs.ReferencePlaces.{places_of, ReferencesHavePlaces}
+use Rattle.jr_local_moves.specs.ReferencePlaces.{ReferencesHavePlaces}
 use Rattle.jr_local_names.specs.BoundNames.{IsBoundName, NamesAreBound}
 use Rattle.jr_local_reads.specs.BehindLaws.{GoesOn, WaysGoOn, IsBelow, BodiesBeginBelow, LocalsHaveTheirNames}
 use Rattle.jr_local_marks.specs.MarkLaws.{IsSpelledBehind, BodiesAreSpelled}

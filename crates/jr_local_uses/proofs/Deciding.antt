@@ -8,16 +8,16 @@ use Rattle.jr_ast.specs.StatementTree as statement
 use Rattle.jr_grammar.specs.Layout.{itself}
 use Rattle.jr_names.specs.Refusals.{Refusal, assigned as refusal_assigned}
 use Rattle.jr_bind.specs.Programs.{Program}
-use Rattle.jr_pieces.specs.Uses.{Use, valued, assigned, changed, stated, list_use}
+use Rattle.jr_pieces.specs.Uses.{Use, valued, assigned, changed, stated}
 use Rattle.jr_pieces.specs.Returns.{returns_in_list}
 use Rattle.jr_local_search.specs.Namings as search
 use Rattle.jr_local_search.specs.Namings.{Among, is_read, is_target, IsOnlyRead, first_target}
 use Rattle.jr_local_search.specs.Places as places
 use Rattle.jr_local_search.specs.Places.{InlinePlace, used_otherwise, read_barred, read_behind, assigned_at, let_go, IsInlinePlace}
-use Rattle.jr_local.specs.Inlining.{Asked, element, behind_it, Naming, first_byte, IsRead, IsTarget, bar, IsOnly, ReturnsBefore, IsPlain, IsNotPlain, MayMove, RefusesInline, IsLetGo}
+use Rattle.jr_local.specs.Inlining.{Asked, element, behind_it, Naming, first_byte, IsTarget, IsOnly, IsPlain, IsNotPlain, MayMove, RefusesInline, IsLetGo}
 use Rattle.jr_local_asked.specs.Asking.{AskedLocal, HasAsked, asked_by}
 use Rattle.jr_local_uses.specs.Heads.{Head}
-use Rattle.jr_local_uses.specs.LocalNamings.{declared_by, IsTold, AreNamings}
+use Rattle.jr_local_uses.specs.LocalNamings.{IsTold, AreNamings}
 use Rattle.jr_local_uses.specs.Inlines.{Inlines, answer, refusal_at, Uses, of_uses, TellsReads, IsPlacedAt, AreUses}
 use Rattle.jr_local_uses.proofs.Declaring.{head_there}
 

@@ -1,5 +1,5 @@
 -- A variable that is a local is in scope: no field is one.
-use Rattle.std.proofs.Common.{◌≡◌, inl, inr, ℕ, List, refl, sym, ap, subst, ◌∙◌}
+use Rattle.std.proofs.Common.{◌≡◌, inl, inr, ℕ, List, sym, ap, subst, ◌∙◌}
 use Rattle.std.proofs.lemmas.Option.{same_Some}
 use Rattle.jr_table.specs.declared.answers.Answer.TheVariants as number
 use Rattle.jr_table.specs.declared.entries.Entry.{Entry}
@@ -7,7 +7,7 @@ use Rattle.jr_table.specs.declared.entries.Sort.TheVariants as sort
 use Rattle.jr_table.specs.Decls.{Decl, LocalKey, class_decl, field_decl, method_decl, constructor_decl, local_decl}
 use Rattle.jr_table.specs.Rows.{Row}
 use Rattle.jr_table.specs.Entries.{entries_of, sort_of}
-use Rattle.jr_table.specs.Found.{Found, one}
+use Rattle.jr_table.specs.Found.{one}
 use Rattle.jr_table.specs.Scope.{Scope, FindsLocal}
 use Rattle.jr_table.specs.Members.{DeclaresField}
 use Rattle.jr_table.specs.Lookup.{FindsVariable}

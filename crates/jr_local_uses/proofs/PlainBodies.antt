@@ -2,8 +2,8 @@
 --
 -- There is one test for null, by the flags of the member's own locals, and for each test that tells
 -- the same the row has the expression's sites (`has_sites`).
-use Rattle.std.proofs.Common.{◌≡◌, ℕ, Bool, true, false, List, [], ◌++◌, map, Option, Some, None, refl, sym, ap, subst, ◌∙◌}
-use Rattle.std.specs.Prelude.{IsTrue, ◌↔◌, option_map}
+use Rattle.std.proofs.Common.{◌≡◌, ℕ, Bool, true, false, List, Option, Some, None, refl, sym, ap, subst, ◌∙◌}
+use Rattle.std.specs.Prelude.{IsTrue, ◌↔◌}
 use Rattle.std.proofs.lemmas.Bool.{false≢true}
 use Rattle.jr_text.specs.declared.spans.Span.{Span}
 use Rattle.jr_ast.specs.Tree as tree
@@ -20,7 +20,7 @@ use Rattle.jr_expr_types.specs.Slots.{find_type}
 use Rattle.jr_members.specs.WrittenMembers.{WrittenMember, written_members}
 use Rattle.jr_members.specs.WrittenLaws.{MembersAreWritten}
 use Rattle.jr_bind.specs.Bounds.{Bound, decl_in, FitsWhole}
-use Rattle.jr_bind.specs.Programs.{Program, IsProgram, units_of}
+use Rattle.jr_bind.specs.Programs.{Program, units_of}
 use Rattle.jr_bind_parts.specs.PartFits.{FitsMaybeArgs}
 use Rattle.jr_program.proofs.Standing.{at_contains}
 use Rattle.jr_cover.specs.Sites.{exp_way}
@@ -35,9 +35,8 @@ use Rattle.jr_member_graphs.specs.OwnFlags.{own_flags}
 use Rattle.jr_sites.specs.declared.sites.PlacedSite as raw
 use Rattle.jr_piece_sites.specs.Footprints.{IsFootprint}
 use Rattle.jr_piece_sites.specs.Leads.{LeadsToExp, of_exp, spots_of}
-use Rattle.jr_pieces.specs.Ways.{ListWay}
 use Rattle.jr_pieces.specs.Finding.{list_path}
-use Rattle.jr_bodies.specs.Bodies.{begins, Body, HasBody, body_of}
+use Rattle.jr_bodies.specs.Bodies.{begins, body_of}
 use Rattle.jr_bodies.specs.BodyLaws.{BodiesAreNested}
 use Rattle.jr_bodies.specs.MemberCode.{Code}
 use Rattle.jr_bodies.proofs.Coded.{key_of}

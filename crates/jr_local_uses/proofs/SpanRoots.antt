@@ -1,10 +1,9 @@
 -- The list of a body among the children of its member, so that the path of a way into it leads from
 -- the member to the way's expression. (`jr_local_footprints: Roots` has it where marks are spots.)
-use Rattle.std.proofs.Common.{◌≡◌, ℕ, zero, suc, ◌+◌, List, [], ◌∷◌, ◌++◌, map, length, drop, Option, Some, None, option_map, refl, sym, ap, subst, ◌∙◌, arith}
+use Rattle.std.proofs.Common.{◌≡◌, ℕ, zero, suc, ◌+◌, List, [], ◌∷◌, ◌++◌, map, length, drop, Option, Some, None, option_map, refl, ap, subst, ◌∙◌, arith}
 use Rattle.std.proofs.lemmas.List.{length-map}
 use Rattle.jr_text.specs.declared.spans.Span.{Span}
 use Rattle.jr_ast.specs.Tree as tree
-use Rattle.jr_ast.specs.StatementTree as statement
 use Rattle.jr_ast.specs.MemberTree as syntax
 use Rattle.jr_ast.specs.Nodes as nodes
 use Rattle.jr_ast.specs.Nodes.{Node, exp_at, children_of, maybe, args_children}

@@ -1,5 +1,5 @@
 -- The bytes where the references to a declaration begin, in their order.
-use Rattle.std.specs.Prelude.{◌≡◌, ◌↔◌, ℕ, List, IsPermutation}
+use Rattle.std.specs.Prelude.{◌↔◌, ℕ, List}
 use Rattle.jr_table.specs.Decls.{Decl}
 use Rattle.jr_bind.specs.Bounds.{Reference}
 use Rattle.jr_local_search.specs.Namings.{Among, RisesBy}

@@ -1,4 +1,4 @@
-use Rattle.std.proofs.Common.{◌≡◌, ℕ, List, Some, map, refl, sym, ap, subst, ◌∙◌}
+use Rattle.std.proofs.Common.{ℕ, List, map, ap, subst}
 use Rattle.std.proofs.lemmas.Result.{IfOk-weaker}
 use Rattle.jr_table.specs.Decls.{local_decl}
 use Rattle.jr_table.specs.KeyView.{local_key_of}

@@ -1,6 +1,5 @@
-use Rattle.std.proofs.Common.{◌≡◌, ℕ, Bool, List, Some, refl, sym, ap, subst, ◌∙◌}
+use Rattle.std.proofs.Common.{List, sym, subst, ◌∙◌}
 use Rattle.std.specs.Prelude.{IsTrue, ◌↔◌}
-use Rattle.std.proofs.lemmas.Result.{IfOk-at_ok}
 use Rattle.jr_sites.specs.declared.sites.PlacedSite.{PlacedSite}
 use Rattle.jr_effect.specs.Plain.{IsPlain}
 use Rattle.jr_text.specs.declared.spans.Span.{Span}
@@ -8,12 +7,11 @@ use Rattle.jr_ast.proofs.Rows.{expr_mark_is}
 use Rattle.jr_ast.specs.View.{expr_of, member_of}
 use Rattle.jr_bodies.specs.CodeView.{code_of as seen}
 use Rattle.jr_local_uses.specs.Paths.{IsPathOf}
-use Rattle.jr_local_uses.specs.PlainValues.{HasValue}
 use Rattle.jr_local_uses.proofs.PlainBodies.{fits, path_is, leads, is_plain_so}
 use Rattle.jr_local_uses.proofs.plain.reads_alone.Goals as goal
 
 pub own_flags-requires : goal.own_flags-requires
-own_flags-requires c = let t = c.requires in fits t.0 c.args.bound.now (member_of c.args.member.now) (seen c.args.code.now) (expr_of c.args.value.now) t.1
+own_flags-requires c = let t = c.requires in record { fits = fits t.0 c.args.bound.now (member_of c.args.member.now) (seen c.args.code.now) (expr_of c.args.value.now) t.1 }
 
 pub footprint-requires-clause-fits : goal.footprint-requires-clause-fits
 footprint-requires-clause-fits c = let t = c.requires in fits t.0 c.args.bound.now (member_of c.args.member.now) (seen c.args.code.now) (expr_of c.args.value.now) t.1
@@ -42,4 +40,4 @@ returns c = λ p rows x.
     let flags_are = c.as_slice-never_null.ensures.value ∙ c.in_ok-flags.ensures.exact in
     let list = c.in_ok-sites.sites.items in
     is_plain_so p b m code e x c.members_are_written.ensures c.own_flags_tell.ensures c.tests_are_there.ensures c.footprints_are_of_body.ensures c.args.table.now rows flags flags_are path is list
-    (λ o f at. IfOk-at_ok _ c.in_ok-sites.is (c.footprint.ensures o f at)) c.is_plain.result (subst (λ (xs : List PlacedSite). IsTrue c.is_plain.result ↔ IsPlain xs) c.as_slice-all.ensures.value c.is_plain.ensures)
+    (λ o f at. c.in_ok-sites.ensures o f at) c.is_plain.result (subst (λ (xs : List PlacedSite). IsTrue c.is_plain.result ↔ IsPlain xs) c.as_slice-all.ensures.value c.is_plain.ensures)

@@ -1,8 +1,6 @@
-use Rattle.std.proofs.Common.{◌≡◌, refl, sym, ap, ◌∙◌}
-use Rattle.std.proofs.lemmas.Result.{IfOk-at_ok}
+use Rattle.std.proofs.Common.{sym, ap, ◌∙◌}
 use Rattle.jr_text.specs.declared.spans.Span.{Span}
 use Rattle.jr_ast.specs.View.{member_of, expr_of}
-use Rattle.jr_table.specs.Errors.{Part}
 use Rattle.jr_members.specs.WrittenMembers.{WrittenMember}
 use Rattle.jr_local_asked.specs.AskedView.{asked_of}
 use Rattle.jr_local_uses.specs.Heads.{Head}
@@ -62,4 +60,4 @@ returns-in_ok-is_plain-in-Some g c = λ file h.
     let m = member_of c.member_in-member.result.now in
     let program = c.keeps_program.ensures in
     let value = has_value p file x.key x.declared h program m part bound bound_so init init_is in
-    tells_reads p file x.key x.declared h program m part bound bound_so init init_is c.in_ok-is_plain-in-Some.is_plain (IfOk-at_ok _ c.in_ok-is_plain-in-Some.is (c.reads_alone.ensures p (sym c.table-table.ensures) value))
+    tells_reads p file x.key x.declared h program m part bound bound_so init init_is c.in_ok-is_plain-in-Some.is_plain (c.in_ok-is_plain-in-Some.ensures p (sym c.table-table.ensures) value)

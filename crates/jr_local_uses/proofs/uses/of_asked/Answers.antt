@@ -1,8 +1,8 @@
 use Rattle.std.proofs.Common.{sym, subst}
 use Rattle.std.proofs.lemmas.Result.{IfOk-weaker}
 use Rattle.jr_local_asked.specs.AskedView.{asked_of}
-use Rattle.jr_local_uses.specs.Inlines.{Inlined, Inlines}
-use Rattle.jr_local_uses.specs.InlineView.{inlined_of, uses_of}
+use Rattle.jr_local_uses.specs.Inlines.{Inlines}
+use Rattle.jr_local_uses.specs.InlineView.{uses_of}
 use Rattle.jr_local_uses.proofs.Deciding.{inlines_so}
 use Rattle.jr_local_uses.proofs.uses.of_asked.Goals as goal
 

@@ -1,9 +1,7 @@
-use Rattle.std.proofs.Common.{◌≡◌, Option, Some, None, map, option_map, sym, ap, subst, ◌∙◌}
-use Rattle.jr_ast.specs.View.{stmts_of}
+use Rattle.std.proofs.Common.{Option, map, option_map, sym, ap, subst, ◌∙◌}
 use Rattle.jr_local_search.specs.NamingView.{naming_of}
 use Rattle.jr_local_search.specs.PlaceView.{inline_of}
 use Rattle.jr_local_search.specs.Places.{let_go}
-use Rattle.jr_local_uses.specs.declared.namings.Head as raw
 use Rattle.jr_local_uses.specs.Heads.{Head}
 use Rattle.jr_local_uses.specs.HeadView.{head_of}
 use Rattle.jr_local_uses.specs.Inlines.{IsPlacedAt}

@@ -1,5 +1,4 @@
 use Rattle.std.proofs.Common.{List, map, subst}
-use Rattle.std.proofs.lemmas.Result.{IfOk-at_ok}
 use Rattle.jr_local_search.specs.declared.names.Naming.{Naming}
 use Rattle.jr_local_search.specs.NamingView.{naming_of}
 use Rattle.jr_local_search.specs.PlaceView.{inline_of}
@@ -16,6 +15,6 @@ returns g c =
     record {
       is_plain = c.in_ok-is_plain.is_plain;
       tells = c.in_ok-is_plain.ensures;
-      are = λ file h. IfOk-at_ok _ c.in_ok-namings.is (c.local_namings.ensures file h);
+      are = λ file h. c.in_ok-namings.ensures file h;
       placed = subst (λ (ys : List Naming). IsPlaced c.in_ok-is_plain.is_plain x (map naming_of ys) (inline_of c.place_among-place.result)) c.as_slice-names.ensures.value c.place_among-place.ensures;
     }
