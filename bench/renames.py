@@ -161,12 +161,10 @@ def measure(jref, files, steps, wanted):
     return round(1000 * (used.ru_utime + used.ru_stime)), used.ru_maxrss // 1024, done, same
 
 
-def main():
-    if len(sys.argv) != 2:
-        sys.exit(__doc__)
-    jref = os.path.realpath(sys.argv[1])
+def measure_rows(jref, rows):
+    """Prints a row for each: bytes, steps done, milliseconds at three sizes, MiB."""
     print("| what | bytes | steps done | ms at a quarter | a half | the whole | MiB |\n|---|---|---|---|---|---|---|")
-    for what, make in ROWS.items():
+    for what, make in rows.items():
         took = []
         for count in (SIZE // 4, SIZE // 2, SIZE):
             files, steps, wanted = make(count)
@@ -178,4 +176,7 @@ def main():
         print(f"| {what} | {size} | {took[-1][2]} of {len(steps)} | {took[0][0]} | {took[1][0]} | {took[2][0]} | {took[2][1]} |", flush=True)
 
 
-main()
+if __name__ == "__main__":
+    if len(sys.argv) != 2:
+        sys.exit(__doc__)
+    measure_rows(os.path.realpath(sys.argv[1]), ROWS)

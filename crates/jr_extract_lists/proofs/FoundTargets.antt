@@ -18,29 +18,17 @@ use Rattle.jr_members.specs.WrittenMembers.{WrittenMember}
 use Rattle.jr_bind.specs.Bounds.{Bound}
 use Rattle.jr_bind.specs.Programs.{File, Program}
 use Rattle.jr_pieces.specs.Standings.{Standing}
-use Rattle.jr_bodies.specs.MemberCode.{Code, code_of}
+use Rattle.jr_bodies.specs.MemberCode.{Code}
 use Rattle.jr_bodies.specs.CodeView.{code_of as seen}
 use Rattle.jr_bodies.specs.Bodies.{Body, body_of}
 use Rattle.jr_bodies.specs.CodedBodies.{body_with}
 use Rattle.jr_bodies.proofs.Coded.{no_body, same_body}
 use Rattle.jr_local.specs.Texts.{HasText}
-use Rattle.jr_local_finds.specs.Chosen.{Chosen}
 use Rattle.jr_local_finds.proofs.ExtractPlaces.{has_key, same_bound}
 use Rattle.jr_extract_lists.specs.declared.targets.Target as raw
 use Rattle.jr_extract_lists.specs.Targets.{has_no_object, IsTarget, selected_by}
 
 -- ---- what is found
-
-no_code : {P : Type 0} (x : Code) → (let none : Option Code = None in none ≡ Some x) → P
-no_code x e = absurd cc
-
--- a head has no code
-pub has_member : (w : WrittenMember Span) (x : Chosen) → code_of w.part ≡ Some x.code → (m : syntax.Member Span) × (w.part ≡ member_part m)
-has_member w x e = by w.part e
-  where
-    by : (q : Part Span) → code_of q ≡ Some x.code → (m : syntax.Member Span) × (q ≡ member_part m)
-    by (class_part c) e = no_code x.code e
-    by (member_part m) e = (m, refl)
 
 is_head : {P : Type 0} (c : syntax.Class Span) (m : syntax.Member Span) → (let q : Part Span = class_part c in q ≡ member_part m) → P
 is_head c m e = absurd cc

@@ -14,7 +14,6 @@ use Rattle.jr_members.specs.WrittenMembers.{WrittenMember}
 use Rattle.jr_bind.specs.Programs.{Program, IsProgram}
 use Rattle.jr_bodies.specs.Bodies.{begins}
 use Rattle.jr_bodies.specs.CodeView.{code_of as seen}
-use Rattle.jr_bodies.specs.MemberCode.{code_of}
 use Rattle.jr_new_words.specs.Mappings.{same_keys}
 use Rattle.jr_new_words.specs.MappingView.{keys_of}
 use Rattle.jr_local.specs.Selecting.{Selected}
@@ -29,10 +28,10 @@ has_no_object (syntax.method m mods t w ps body) = is_static_member begins mods
 has_no_object (syntax.constructor m mods w ps args body) = false
 has_no_object (syntax.inner m c) = false
 
--- what is found stands in this written member, which has code
+-- what is found stands in this written member, which is no head of a class
 pub record IsMemberOf (p : Program Span) (w : WrittenMember Span) (x : Chosen) : Type 0 where
   pub stands : slice_get (members_of p) x.member ≡ Some w
-  pub code : code_of w.part ≡ Some x.code
+  pub is_member : (m : syntax.Member Span) × (w.part ≡ member_part m)
 
 -- the expression is found in a sound program, and this is known of it
 pub record IsTarget (p : Program Span) (t : raw.Target) : Type 0 where

@@ -28,10 +28,11 @@ use Rattle.jr_way_places.specs.PlacedWays.{list_step, list_rest}
 use Rattle.jr_sites.specs.declared.sites.PlacedSite as raw
 use Rattle.jr_piece_sites.specs.Footprints.{IsFootprint}
 use Rattle.jr_piece_sites.specs.Leads.{AreParts, of_exp, of_stmts, spots_of}
+use Rattle.jr_plan.specs.Reasons.{TellsLost}
 use Rattle.jr_local.specs.Bodies.{begins, Body, HasBody}
 use Rattle.jr_local.specs.Crossing.{Crossed}
 use Rattle.jr_local_footprints.specs.Givens.{IsMemberOf, FlagsTell, given_of}
-use Rattle.jr_local_footprints.specs.LostPairs.{IsLostPair, TellsLost}
+use Rattle.jr_local_footprints.specs.LostPairs.{IsLostPair}
 
 module _ (p : Program Span) (b : Body) (flags : List Bool) (base : ℕ) (m : syntax.Member Span)
     (o : Others) where

@@ -35,7 +35,8 @@ use Rattle.jr_local.specs.BodyFacts.{TellsNeverNull, known}
 use Rattle.jr_local.specs.Crossing.{Piece, Crossed, action, site_at}
 use Rattle.jr_local_footprints.specs.Ranges.{taken, size, own}
 use Rattle.jr_local_footprints.specs.Givens.{given_of}
-use Rattle.jr_local_footprints.specs.LostPairs.{AreSitesOf, IsLostPair, Stands, TellsLost}
+use Rattle.jr_plan.specs.Reasons.{TellsLost}
+use Rattle.jr_local_footprints.specs.LostPairs.{AreSitesOf, IsLostPair, Stands}
 use Rattle.jr_local_footprints.specs.Laws.{AreBetween, FrontsAreOfBody, PiecesAreLost}
 use Rattle.jr_local_footprints.proofs.PlacesBehind.{AllBehind}
 

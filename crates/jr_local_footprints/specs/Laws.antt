@@ -24,13 +24,14 @@ use Rattle.jr_way_places.specs.PlacedWays.{list_step}
 use Rattle.jr_sites.specs.declared.sites.PlacedSite as raw
 use Rattle.jr_piece_sites.specs.Footprints.{IsFootprint}
 use Rattle.jr_piece_sites.specs.Leads.{of_exp, of_stmts}
+use Rattle.jr_plan.specs.Reasons.{TellsLost}
 use Rattle.jr_local.specs.Bodies.{begins, Body, HasBody}
 use Rattle.jr_local.specs.BodyFacts.{TellsNeverNull, known}
 use Rattle.jr_local.specs.Crossing.{Piece, Crossed}
 use Rattle.jr_local_footprints.specs.Ranges.{dropped, taken, size, own}
 use Rattle.jr_local_footprints.specs.Givens.{IsMemberOf, FlagsTell, given_of}
 use Rattle.jr_local_footprints.specs.SeenPieces.{IsSeen, ExpIsSeen, StmtsAreSeen, held}
-use Rattle.jr_local_footprints.specs.LostPairs.{AreSitesOf, IsLostPair, TellsLost}
+use Rattle.jr_local_footprints.specs.LostPairs.{AreSitesOf, IsLostPair}
 
 -- ---- footprints
 

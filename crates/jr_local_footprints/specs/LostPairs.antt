@@ -1,7 +1,6 @@
--- The pair of sites that two footprints lose, and the one that two pieces of a body lose.
+-- The pair of sites that two footprints lose, and which footprints have the sites of a body.
 use Rattle.std.specs.Prelude.{◌≡◌, ℕ, ◌+◌, List, map, Option, Some, None, slice_get}
 use Rattle.jr_text.specs.declared.spans.Span.{Span}
-use Rattle.jr_sync.specs.declared.sites.DepKind.{DepKind}
 use Rattle.jr_sync.specs.Crossing.{IsCrossing}
 use Rattle.jr_bind.specs.Programs.{Program}
 use Rattle.jr_code.specs.RunKeys.{RunKeys}
@@ -46,10 +45,3 @@ pub record AreSitesOf (p : Program Span) (file : ℕ) (b : Body) (sites : List (
   pub are : map (action p file b) sites ≡ sites_in list
   pub places : map (λ (s : Site RunKeys). s.at.at) sites
       ≡ map (λ (s : raw.PlacedSite). b.at.base + s.at) list
-
--- what is told of a step that may lose a pair: the pair, or that it loses none
-abbrev pub TellsLost : (Crosses : DepKind → (first second : SiteAt) → Type 0) → Option DepPair
-    → Type 0
-TellsLost Crosses None =
-    (kind : DepKind) (first second : SiteAt) → Crosses kind first second → ⊥
-TellsLost Crosses (Some x) = Crosses x.kind x.first x.second

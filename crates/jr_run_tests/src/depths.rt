@@ -1,6 +1,7 @@
 //! Steps over the deepest texts of each kind that the limits allow: each has to do with the stack
 //! that a program is given.
 use crate::dependences::tell_dependences;
+use crate::locals::run_extract;
 use crate::memory::{put, put_times, text_of};
 use crate::rows::{assert_same, cut_at, number};
 use crate::runs::run_over;
@@ -12,6 +13,9 @@ use std::process::Abort;
 const FRONT: &str = "class C{boolean F;C M(C P){boolean L=F;";
 
 const BACK: &str = "M(P).F=L;return P;}}";
+
+/// What stands behind it where the last L is extracted.
+const EXTRACTED: &str = "boolean D = L; M(P).F=D;return P;}}";
 
 /// How what nests is made: how often its front and its back stand, the pieces of a front, the
 /// middle, and the pieces of a back; a piece has the number of times that it stands. At most 100
@@ -67,8 +71,8 @@ fn put_often(rt: &impl Abort, text: &mut String, pieces: &str, count: u32) {
     }
 }
 
-/// The text of a row.
-fn nested(rt: &impl Abort, alloc: Global, row: &str) -> String {
+/// The text of a row, in which this stands behind what nests.
+fn nested_before(rt: &impl Abort, alloc: Global, row: &str, end: &str) -> String {
     let (count, row) = cut_at(row, "@");
     let count = number(rt, count);
     let (front, row) = cut_at(row, "@");
@@ -79,8 +83,12 @@ fn nested(rt: &impl Abort, alloc: Global, row: &str) -> String {
     if back != "" {
         put_often(rt, &mut text, back, count);
     }
-    put(rt, &mut text, BACK);
+    put(rt, &mut text, end);
     text
+}
+
+fn nested(rt: &impl Abort, alloc: Global, row: &str) -> String {
+    nested_before(rt, alloc, row, BACK)
 }
 
 /// What a name is bound to.
@@ -117,6 +125,23 @@ fn assert_renamed(rt: &impl Abort, alloc: Global, text: &str, line: &str, old: &
     assert_same(rt, told.as_str(), expected.as_str());
 }
 
+/// The last L becomes a local of its own, in front of its statement.
+fn assert_extracted(rt: &impl Abort, alloc: Global, text: &str, row: &str) {
+    let (_, from) = last_two(text, 'L');
+    let (to, _) = last_two(text, ';');
+    let mut asked = String::new(alloc);
+    write!(asked, "0 {from} {to} D@{text}").expect(rt, "memory");
+    let told = run_extract(rt, alloc, asked.as_str());
+    let report = "Done | [{\"files\":[\"A.java\"],\"reply\":\"refactored\",\"respelled\":0}] | ";
+    let mut expected = text_of(rt, alloc, report);
+    put(
+        rt,
+        &mut expected,
+        nested_before(rt, alloc, row, EXTRACTED).as_str(),
+    );
+    assert_same(rt, told.as_str(), expected.as_str());
+}
+
 fn assert_nested(rt: &impl Abort, alloc: Global, row: &str) {
     let text = nested(rt, alloc, row);
     let text = text.as_str();
@@ -126,6 +151,7 @@ fn assert_nested(rt: &impl Abort, alloc: Global, row: &str) {
     assert_renamed(rt, alloc, text, "rename A.java 16 D", "F", "D");
     assert_renamed(rt, alloc, text, "rename A.java 20 D", "M", "D");
     assert_renamed(rt, alloc, text, "rename A.java 35 D", "L", "D");
+    assert_extracted(rt, alloc, text, row);
 }
 
 /// The last two places at which a name stands.

@@ -350,6 +350,23 @@ pub(crate) const ROWS: &'static str = "
     g;volatile int v;volatile int u;final int c=1;static int s;A a;boolean b;A(){}int n(int \
     x){return x;}static int k(int x){return x;}void w(){}int m(){\n    int t = g;\n    return 1 \
     +\n        t;\n}}
+~# Line ends of two bytes, a monitor, letters of two bytes, comments on both sides, a list's \
+    end.
+~extract 0 39 40 t@class A{\r\n\tint f;\r\n\tint m(){\r\n\t\treturn f+1;\r\n\t}\r\n}\r\n => \
+    Done | [{\"files\":[\"A.java\"],\"reply\":\"refactored\",\"respelled\":0}] | class \
+    A{\r\n\tint f;\r\n\tint m(){\r\n\t\tint t = f;\r\n\t\treturn t+1;\r\n\t}\r\n}\r\n
+~extract 0 50 51 t@class A{int f;int g;void m(){synchronized(this){g=f;}}} => Done | \
+    [{\"files\":[\"A.java\"],\"reply\":\"refactored\",\"respelled\":0}] | class A{int f;int \
+    g;void m(){synchronized(this){int t = f; g=t;}}}
+~extract 0 31 33 λ@class Ä{int ü;int m(){return ü+1;}} => Done | \
+    [{\"files\":[\"A.java\"],\"reply\":\"refactored\",\"respelled\":0}] | class Ä{int ü;int \
+    m(){int λ = ü; return λ+1;}}
+~extract 0 38 39 t@class A{int f;int m(){/*a*/return/*b*/f/*c*/;}} => Done | \
+    [{\"files\":[\"A.java\"],\"reply\":\"refactored\",\"respelled\":0}] | class A{int f;int \
+    m(){/*a*/int t = f; return/*b*/t/*c*/;}}
+~extract 0 35 36 t@class A{int f;int g;void m(){f=1;g=f;}} => Done | \
+    [{\"files\":[\"A.java\"],\"reply\":\"refactored\",\"respelled\":0}] | class A{int f;int \
+    g;void m(){f=1;int t = f; g=t;}}
 ";
 
 /// A script that extracts the expression of these bytes.

@@ -82,7 +82,7 @@ fn rows_are_answered(rt: HostRuntime) {
     assert_rows(&rt, alloc, renaming::THREE, 8);
     assert_rows(&rt, alloc, renaming::BACK, 2);
     assert_rows(&rt, alloc, kinds::ROWS, 66);
-    assert_rows(&rt, alloc, locals::ROWS, 56);
+    assert_rows(&rt, alloc, locals::ROWS, 61);
     assert_rows(&rt, alloc, endings::ROWS, 11);
     assert_rows(&rt, alloc, dependences::ROWS, 64);
     assert_rows(&rt, alloc, dependences::AMONG, 79);

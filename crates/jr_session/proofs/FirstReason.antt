@@ -39,7 +39,7 @@ use Rattle.jr_session.specs.States.{State}
 use Rattle.jr_session.specs.Stepping.{Steps}
 use Rattle.jr_session.proofs.EditLaws.{one_file, text_of_file}
 use Rattle.jr_session.proofs.OneRefactoring.{IsPlannedOnce, Reasons, FromPlan, NoFile, NoPlace, NoName, IsWrong, IsLong, WouldBreak, reasons, no_file_out, no_place_one, no_place_out, no_name_one, wrong_one, wrong_out, same_files, once_here, long_one, long_out, breaks_one}
-use Rattle.jr_session.proofs.OneStep.{Answered, rename_answers}
+use Rattle.jr_session.proofs.AskedSteps.{Answered, rename_answers}
 use Rattle.jr_session.proofs.PlanReasons as plans
 use Rattle.jr_session.proofs.PlanReasons.{ranked, of_same, refused_rank, reason_rank, reason_of}
 use Rattle.jr_session.proofs.Planning.{file as file_there}

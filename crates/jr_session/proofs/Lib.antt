@@ -1,10 +1,13 @@
 -- States: `Histories`, `Places`, `KeptLaws`, `StateLaws`, `LengthLaws`, `EditLaws`, `Exchanging`,
 -- `Turning`, `SessionSteps`, `StepCases`, `StepFiles`, `RefusalCases`, `Telling` (the places that a
 -- refusal tells). Shows: `ShownLines`, `ShownMembers`, `DependenceShows`, `ShownOnce`, `ShowSteps`, `Showing`. A refactoring: `Making`, `Planning`,
--- `Trying`, `Staying`, `HadBack` (what was analysed before), `Refactored`, `RefactoredFiles`, `PlansRead`, `RequestSteps`; a rename: `NewTables`,
--- `NewTells`. One answer: `OneAnswer` (edits, undoing, redoing), `OneFault`, `OneWrong`,
--- `OneRefactoring`, `RenameRequest`, `OneStep`; `PlanReasons`, `FirstReason`. Promises: `KeptPrograms`
--- (of any refactoring, by what it shows), `NewPrograms` (of a rename), `NewTrees`, `NewRows`,
+-- `Trying`, `Staying`, `HadBack` (what was analysed before), `Refactored`, `RefactoredFiles`,
+-- `PlansRead`, `AskedSteps` and `RequestSteps` (any that can be asked for), `SpanRequest` (2 and 3);
+-- what is known of the new table: `NewTables`, `NewTells`. One answer: `OneAnswer` (edits, undoing,
+-- redoing), `OneFault`, `OneWrong`, `OneRefactoring`, `RenameRequest`, `ExtractRequest`, `OneStep`;
+-- `PlanReasons`, `FirstReason`. Promises: `KeptPrograms` (of any refactoring, by what it shows),
+-- `RowsStay` (of one that keeps all rows), `ExtractedPrograms`, `NewPrograms` (of a rename, and of
+-- all), `NewTrees`, `NewRows`,
 -- `BareReferences` (what a tree's references find doesn't depend on its marks), `TakenBack`.
 pub mod Histories
 pub mod Places
@@ -45,9 +48,11 @@ pub mod TakenBack
 pub mod NewRows
 pub mod NewTrees
 pub mod PlansRead
+pub mod AskedSteps
 pub mod RequestSteps
 pub mod NewTables
 pub mod KeptPrograms
+pub mod RowsStay
 pub mod ExtractedPrograms
 pub mod NewPrograms
 pub mod Staying

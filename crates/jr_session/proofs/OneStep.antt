@@ -19,10 +19,10 @@ use Rattle.jr_sources.proofs.Analysing.{OneItems}
 use Rattle.jr_sources.specs.ReadingLaws.{HasOneReading}
 use Rattle.jr_session.specs.Serving.{IsServed}
 use Rattle.jr_session.specs.Asked.{rename, extract}
-use Rattle.jr_session.specs.Refactored.{RefusesRefactoring, Refactors}
 use Rattle.jr_session.specs.Requests.{Request}
 use Rattle.jr_session.specs.Stepping.{Steps, IsEdited, IsShown}
 use Rattle.jr_session.specs.StepLaws.{HasOneShow}
+use Rattle.jr_session.proofs.AskedSteps.{Answered, rename_answers, extract_answers}
 use Rattle.jr_session.proofs.OneAnswer.{one_edited, one_refusal, one_undo_refusal, one_redo_refusal, one_undone, one_redone}
 use Rattle.jr_session.proofs.OneFault.{one_show_refusal}
 use Rattle.jr_session.proofs.OneRefactoring.{IsPlannedOnce, one_refused, refused_not_done, one_done}
@@ -101,61 +101,6 @@ show_answers s file of redone t h = absurd (no_redo file of h.1.0)
 show_answers s file of (refused x) t h = inl (x, refl, h.0, h.1)
 
 -- ---- a refactoring
-
--- it is refused and nothing changes, or it is done
-abbrev pub Answered : State → Request → Reply → State → Type 0
-Answered s ask r t = ((x : Refusal) × (r ≡ refused x) × RefusesRefactoring s ask x × (t ≡ s))
-    ⊎ ((names : List (List ℕ)) × (respelled : ℕ) × (r ≡ refactored names respelled) × Refactors s ask names respelled t)
-
--- ---- a rename
-
-abbrev pub the_rename : List ℕ → ℕ → List ℕ → Step
-the_rename file at new = step.Rename file at new
-
-rename_not_edit : (file other text new : List ℕ) (at from to : ℕ) → the_rename file at new ≡ step.Edit other from to text → ⊥
-rename_not_edit file other text new at from to e = cc
-
-rename_not_show : (file other new : List ℕ) (of : What) (at : ℕ) → the_rename file at new ≡ step.Show other of → ⊥
-rename_not_show file other new of at e = cc
-
-rename_not_undo : (file new : List ℕ) (at : ℕ) → the_rename file at new ≡ step.Undo → ⊥
-rename_not_undo file new at e = cc
-
-rename_not_redo : (file new : List ℕ) (at : ℕ) → the_rename file at new ≡ step.Redo → ⊥
-rename_not_redo file new at e = cc
-
-pub rename_answers : (s : State) (file : List ℕ) (at : ℕ) (new : List ℕ) (r : Reply) (t : State) → Steps s (the_rename file at new) r t → Answered s (rename file at new) r t
-rename_answers s file at new edited t h = absurd (rename_not_edit file h.1.edit.file h.1.text new at h.1.span.from h.1.span.to h.1.edit.is)
-rename_answers s file at new (refactored names respelled) t h = inr (names, respelled, refl, h.1)
-rename_answers s file at new (shown a) t h = absurd (rename_not_show file h.1.shows.shows.file new h.1.shows.shown at h.1.shows.shows.is)
-rename_answers s file at new undone t h = absurd (rename_not_undo file new at h.1.0)
-rename_answers s file at new redone t h = absurd (rename_not_redo file new at h.1.0)
-rename_answers s file at new (refused x) t h = inl (x, refl, h.0, h.1)
-
--- ---- an extraction of a local
-
-abbrev the_extract : List ℕ → ℕ → ℕ → List ℕ → Step
-the_extract file from to new = step.ExtractLocal file from to new
-
-extract_not_edit : (file other text new : List ℕ) (from to a b : ℕ) → the_extract file from to new ≡ step.Edit other a b text → ⊥
-extract_not_edit file other text new from to a b e = cc
-
-extract_not_show : (file other new : List ℕ) (of : What) (from to : ℕ) → the_extract file from to new ≡ step.Show other of → ⊥
-extract_not_show file other new of from to e = cc
-
-extract_not_undo : (file new : List ℕ) (from to : ℕ) → the_extract file from to new ≡ step.Undo → ⊥
-extract_not_undo file new from to e = cc
-
-extract_not_redo : (file new : List ℕ) (from to : ℕ) → the_extract file from to new ≡ step.Redo → ⊥
-extract_not_redo file new from to e = cc
-
-pub extract_answers : (s : State) (file : List ℕ) (from to : ℕ) (new : List ℕ) (r : Reply) (t : State) → Steps s (the_extract file from to new) r t → Answered s (extract file from to new) r t
-extract_answers s file from to new edited t h = absurd (extract_not_edit file h.1.edit.file h.1.text new from to h.1.span.from h.1.span.to h.1.edit.is)
-extract_answers s file from to new (refactored names respelled) t h = inr (names, respelled, refl, h.1)
-extract_answers s file from to new (shown a) t h = absurd (extract_not_show file h.1.shows.shows.file new h.1.shows.shown from to h.1.shows.shows.is)
-extract_answers s file from to new undone t h = absurd (extract_not_undo file new from to h.1.0)
-extract_answers s file from to new redone t h = absurd (extract_not_redo file new from to h.1.0)
-extract_answers s file from to new (refused x) t h = inl (x, refl, h.0, h.1)
 
 module _ (reading : HasOneReading) (items_once : OneItems) (placed : PartsArePlaced) (law : MembersAreWritten Span) (s : State) (ask : Request) (ones : IsPlannedOnce ask) (differ : Differ s.files) where
   both_refactored : (r q : Reply) (t u : State) → Answered s ask r t → Answered s ask q u → (r ≡ q) × (t ≡ u)

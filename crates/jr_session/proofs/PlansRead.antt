@@ -1,5 +1,5 @@
 -- What the edits of a plan make of the texts of a program, of each refactoring.
-use Rattle.std.proofs.Common.{◌≡◌, ℕ, List, [], ◌∷◌, ◌++◌, map, Some, sym, ap, ◌∙◌, arith}
+use Rattle.std.proofs.Common.{◌≡◌, ℕ, List, [], ◌∷◌, ◌++◌, map, Some, refl, sym, ap, ◌∙◌, arith}
 use Rattle.std.specs.Prelude.{option_map, slice_get}
 use Rattle.std.proofs.lemmas.List.{length-map}
 use Rattle.std.proofs.lemmas.Option.{slice_get-map, slice_get_within}
@@ -36,13 +36,13 @@ last_none [] ys e = e
 last_none (x ∷ xs) ys e = absurd cc
 
 none_of : {X Y : Type 0} (f : X → Y) (xs : List X) → map f xs ≡ [] → xs ≡ []
-none_of f [] e = e
+none_of f [] e = refl
 none_of f (x ∷ xs) e = absurd cc
 
 module _ (fit : ExtractsFit) (file : List ℕ) (from to : ℕ) (new : List ℕ) (p : Program Span) (text : List ℕ) (number : ℕ) (edits : List (List Entry)) (renaming : List (Decl × Decl)) (respelled : ℕ)
     (program : IsProgram itself Anywhere p) (name : IsGoodName (extract file from to new).name) (is : IsPlanned p (extract_local p number from to new) edits renaming respelled)
   where
-    found : Found p number from to new
+    abbrev found : Found p number from to new
     found = is.found
 
     -- the type's class isn't lost

@@ -1,7 +1,7 @@
 -- The states behind a refactoring, from what its body finds.
-use Rattle.std.proofs.Common.{◌≡◌, ℕ, List, [], ◌∷◌, ◌++◌, length, refl, sym, subst, inl, inr}
+use Rattle.std.proofs.Common.{◌≡◌, ℕ, List, [], ◌∷◌, ◌++◌, length, refl, sym, ap, subst, ◌∙◌, inl, inr}
 use Rattle.std.specs.List.{slice_get}
-use Rattle.std.specs.Prelude.{Bool, Option, Some, None}
+use Rattle.std.specs.Prelude.{Bool, true, false, not, Option, Some, None, is_some}
 use Rattle.std.proofs.lemmas.Option.{same_Some}
 use Rattle.jr_text.specs.Edits.{Entry}
 use Rattle.jr_names.specs.Refusals.{would_not_compile, too_long}
@@ -44,6 +44,16 @@ module _ (s : State) (news : List Source) (names : List (List ℕ)) (respelled :
 
   pub reply_done : (may_stay : Bool) (t : State) → IsChangedBy s news may_stay changed.Done t → lost ≡ None → (r : Reply) → r ≡ refactored names respelled → IsTriedBy s news names respelled lost r t
   reply_done may_stay t h none r e = by.holds none h.2 e h.0
+
+-- ---- whether a dependence is lost
+
+pub none_left : {X : Type 0} (lost : Option X) (may_stay : Bool) → is_some lost ≡ not may_stay → may_stay ≡ true → lost ≡ None
+none_left None may_stay e stays = refl
+none_left (Some x) may_stay e stays = (let none : true ≡ false = e ∙ ap not stays in absurd cc)
+
+pub some_lost : {X : Type 0} (lost : Option X) (may_stay : Bool) → is_some lost ≡ not may_stay → may_stay ≡ false → lost ≡ None → ⊥
+some_lost None may_stay e goes none = (let some : false ≡ true = e ∙ ap not goes in cc)
+some_lost (Some x) may_stay e goes none = cc
 
 -- ---- new texts that were tried
 

@@ -26,4 +26,4 @@ plan_of s file at new edits respelled h = record { program = h.posed.program.is;
 
 pub cannot_rename : (file text : List ℕ) (at : ℕ) (new : List ℕ) (r : Refusal) → IsUnasked file text at new r → CannotBeAsked file text (at ∷ []) (Some new) r
 cannot_rename file text at new r (inl h) = inl (at, inl (inl (h.0, refl)), h.1)
-cannot_rename file text at new r (inr h) = inr (new, (h.0, tt), (h.1, refl), h.2)
+cannot_rename file text at new r (inr h) = inr (new, ((h.0, tt), tt), (h.1, refl), h.2)

@@ -9,7 +9,7 @@ use Rattle.jr_text.specs.Edits.{Entry, FitsIn}
 use Rattle.jr_ast.specs.MemberTree as syntax
 use Rattle.jr_sync.specs.declared.sites.DepKind.{DepKind}
 use Rattle.jr_names.specs.Refusals.{Refusal, no_such_file, source_error}
-use Rattle.jr_names.specs.Replies.{Reply, edited, refactored, shown, undone, redone, refused}
+use Rattle.jr_names.specs.Replies.{Reply, refused}
 use Rattle.jr_names.specs.Sites.{SiteAt, DepPair}
 use Rattle.jr_bind.specs.Programs.{File, units_of}
 use Rattle.jr_rewrite.specs.Rewritten.{Rewritten}
@@ -23,6 +23,7 @@ use Rattle.jr_sources.specs.ReadingLaws.{HasOneReading}
 use Rattle.jr_sources.specs.Sources.{Source, HasName, LacksFile, IsFile}
 use Rattle.jr_sources.proofs.AllRead.{text_there}
 use Rattle.jr_sources.proofs.Analysing.{no_fault}
+use Rattle.jr_names.specs.declared.steps.Step.TheVariants as step
 use Rattle.jr_session.specs.declared.plans.Asked.{Asked}
 use Rattle.jr_session.specs.declared.plans.Asked.TheVariants as asked
 use Rattle.jr_session.specs.States.{State}
@@ -32,6 +33,7 @@ use Rattle.jr_session.specs.NewTexts.{with_edits}
 use Rattle.jr_session.specs.PlansRead.{ReadsSo, PlansRead}
 use Rattle.jr_session.specs.Refactoring as by
 use Rattle.jr_session.specs.Refactoring.{StayWithin, IsRefactoredBy, CostsRefactoring}
+use Rattle.jr_session.specs.Asked.{rename, extract}
 use Rattle.jr_session.specs.Refactored as why
 use Rattle.jr_session.specs.Refactored.{IsAsked, IsPlan, IsShort, IsWhole, transform_of, RefusesRefactoring, Refactors}
 use Rattle.jr_session.specs.Requests.{Request, CannotBeAsked, IsGoodName, refactors}
@@ -40,6 +42,7 @@ use Rattle.jr_session.specs.Splicing.{HasText}
 use Rattle.jr_session.specs.Stepping.{Steps}
 use Rattle.jr_session.specs.Trying.{AreWhole}
 use Rattle.jr_session.specs.Work.{IsWithinWork, BindsBy}
+use Rattle.jr_session.proofs.AskedSteps.{StepsBy, from_asks, asked as as_asked}
 use Rattle.jr_session.proofs.EditLaws.{text_of_file}
 use Rattle.jr_session.proofs.NewTrees.{many_units}
 use Rattle.jr_session.proofs.Planning.{count, file as file_there}
@@ -47,33 +50,14 @@ use Rattle.jr_session.proofs.Showing.{one_name}
 
 -- ---- a step by what it asks
 
--- it is refused and nothing changes, or it is done
-abbrev pub StepsBy : State → Request → Reply → State → Type 0
-StepsBy s ask edited t = ⊥
-StepsBy s ask (refactored names n) t = Refactors s ask names n t
-StepsBy s ask (shown lines) t = ⊥
-StepsBy s ask undone t = ⊥
-StepsBy s ask redone t = ⊥
-StepsBy s ask (refused r) t = RefusesRefactoring s ask r × (t ≡ s)
-
 -- what it binds
 pub record WorksBy (s : State) (ask : Request) (before after : ℕ) : Type 0 where
   pub faulty : (file : List ℕ) (at : ℕ) (kind : List ℕ) → IsFirstFaultOf s.files file at kind → after ≡ before
   pub program : (units : List (syntax.Unit Span)) (words : List ℕ) → AreProgram s.files units words → BindsBy (refactors ask) s units before after
 
 pub steps_by : (s : State) (file : List ℕ) (a : Asked) (r : Reply) (t : State) → StepsBy s (ask_by file a) r t → Steps s (step_by file a) r t
-steps_by s file (asked.Rename at new) edited t h = absurd h
-steps_by s file (asked.Rename at new) (refactored names n) t h = (tt, h)
-steps_by s file (asked.Rename at new) (shown lines) t h = absurd h
-steps_by s file (asked.Rename at new) undone t h = absurd h
-steps_by s file (asked.Rename at new) redone t h = absurd h
-steps_by s file (asked.Rename at new) (refused r) t h = h
-steps_by s file (asked.ExtractLocal from to new) edited t h = absurd h
-steps_by s file (asked.ExtractLocal from to new) (refactored names n) t h = (tt, h)
-steps_by s file (asked.ExtractLocal from to new) (shown lines) t h = absurd h
-steps_by s file (asked.ExtractLocal from to new) undone t h = absurd h
-steps_by s file (asked.ExtractLocal from to new) redone t h = absurd h
-steps_by s file (asked.ExtractLocal from to new) (refused r) t h = h
+steps_by s file (asked.Rename at new) r t h = from_asks s (step.Rename file at new.now) r t (as_asked s (step.Rename file at new.now) (rename file at new.now) r t h)
+steps_by s file (asked.ExtractLocal from to new) r t h = from_asks s (step.ExtractLocal file from to new.now) r t (as_asked s (step.ExtractLocal file from to new.now) (extract file from to new.now) r t h)
 
 pub works_by : (s : State) (file : List ℕ) (a : Asked) (before after : ℕ) → WorksBy s (ask_by file a) before after → IsWithinWork s (step_by file a) before after
 works_by s file (asked.Rename at new) before after h = record { other = λ f. absurd (f tt); faulty = h.faulty; program = h.program }
@@ -142,13 +126,13 @@ module _ (s : State) (ask : Request) where
     refused_step r h = (why.by_plan h.p number h.text (record { asked = asked_of h.text h.has; program = h.program }) h.refused, refl)
 
     module _ (edits : List (List Entry)) (respelled : ℕ) (lost : Option DepPair) (plan : ArePlanned s.files ask number edits respelled lost) where
-      the_plan : IsPlan s ask edits respelled
+      abbrev the_plan : IsPlan s ask edits respelled
       the_plan = record { p = plan.p; number = number; text = plan.text; posed = record { asked = asked_of plan.text plan.has; program = plan.program }; renaming = plan.renaming; planned = plan.planned }
 
-      short : StayWithin s.files edits → IsShort s ask edits respelled
+      abbrev short : StayWithin s.files edits → IsShort s ask edits respelled
       short h = record { plan = the_plan; within = h.within; together = h.together }
 
-      whole : StayWithin s.files edits → AreWhole (with_edits s.files edits) → IsWhole s ask edits respelled
+      abbrev whole : StayWithin s.files edits → AreWhole (with_edits s.files edits) → IsWhole s ask edits respelled
       whole h w = record { short = short h; sound = w.right; q = w.some.0; program = w.some.1 }
 
       abbrev Crosses : DepKind → SiteAt → SiteAt → Type 0

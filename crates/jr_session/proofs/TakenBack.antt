@@ -6,57 +6,12 @@ use Rattle.jr_names.specs.declared.steps.What.{What}
 use Rattle.jr_names.specs.Replies.{Reply, edited, refactored, shown, undone, redone, refused}
 use Rattle.jr_sources.specs.Sources.{Source, names_of, texts_of}
 use Rattle.jr_session.specs.NewTexts.{with_edits}
-use Rattle.jr_session.specs.Asked.{rename, extract}
 use Rattle.jr_session.specs.Refactored.{Refactors}
 use Rattle.jr_session.specs.Requests.{Request}
 use Rattle.jr_session.specs.States.{State, IsUndone}
 use Rattle.jr_session.specs.Stepping.{Steps}
-use Rattle.jr_session.specs.Promises.{IsDone, IsTakenBack}
+use Rattle.jr_session.specs.Promises.{IsTakenBack}
 use Rattle.jr_session.proofs.RefusalCases.{undo_refusals, undo_no_edit}
-
--- ---- what an accepted rename is
-
-rename_no_edit : (file new f text : List ℕ) (at from to : ℕ) → step.Rename file at new ≡ step.Edit f from to text → ⊥
-rename_no_edit file new f text at from to e = cc
-
-rename_no_show : (file new f : List ℕ) (of : What) (at : ℕ) → step.Rename file at new ≡ step.Show f of → ⊥
-rename_no_show file new f of at e = cc
-
-rename_no_undo : (file new : List ℕ) (at : ℕ) → step.Rename file at new ≡ step.Undo → ⊥
-rename_no_undo file new at e = cc
-
-rename_no_redo : (file new : List ℕ) (at : ℕ) → step.Rename file at new ≡ step.Redo → ⊥
-rename_no_redo file new at e = cc
-
-pub renamed_of : (s t : State) (file : List ℕ) (at : ℕ) (new : List ℕ) (reply : Reply) → Steps s (step.Rename file at new) reply t → IsDone reply → (names : List (List ℕ)) × (n : ℕ) × Refactors s (rename file at new) names n t
-renamed_of s t file at new edited h done = absurd (rename_no_edit file new h.1.edit.file h.1.text at h.1.span.from h.1.span.to h.1.edit.is)
-renamed_of s t file at new (refactored names n) h done = (names, n, h.1)
-renamed_of s t file at new (shown lines) h done = absurd (rename_no_show file new h.1.shows.shows.file h.1.shows.shown at h.1.shows.shows.is)
-renamed_of s t file at new undone h done = absurd (rename_no_undo file new at h.1.0)
-renamed_of s t file at new redone h done = absurd (rename_no_redo file new at h.1.0)
-renamed_of s t file at new (refused r) h done = absurd (done r refl)
-
--- ---- what an accepted extraction of a local is
-
-extract_no_edit : (file new f text : List ℕ) (from to a b : ℕ) → step.ExtractLocal file from to new ≡ step.Edit f a b text → ⊥
-extract_no_edit file new f text from to a b e = cc
-
-extract_no_show : (file new f : List ℕ) (of : What) (from to : ℕ) → step.ExtractLocal file from to new ≡ step.Show f of → ⊥
-extract_no_show file new f of from to e = cc
-
-extract_no_undo : (file new : List ℕ) (from to : ℕ) → step.ExtractLocal file from to new ≡ step.Undo → ⊥
-extract_no_undo file new from to e = cc
-
-extract_no_redo : (file new : List ℕ) (from to : ℕ) → step.ExtractLocal file from to new ≡ step.Redo → ⊥
-extract_no_redo file new from to e = cc
-
-pub extracted_of : (s t : State) (file : List ℕ) (from to : ℕ) (new : List ℕ) (reply : Reply) → Steps s (step.ExtractLocal file from to new) reply t → IsDone reply → (names : List (List ℕ)) × (n : ℕ) × Refactors s (extract file from to new) names n t
-extracted_of s t file from to new edited h done = absurd (extract_no_edit file new h.1.edit.file h.1.text from to h.1.span.from h.1.span.to h.1.edit.is)
-extracted_of s t file from to new (refactored names n) h done = (names, n, h.1)
-extracted_of s t file from to new (shown lines) h done = absurd (extract_no_show file new h.1.shows.shows.file h.1.shows.shown from to h.1.shows.shows.is)
-extracted_of s t file from to new undone h done = absurd (extract_no_undo file new from to h.1.0)
-extracted_of s t file from to new redone h done = absurd (extract_no_redo file new from to h.1.0)
-extracted_of s t file from to new (refused r) h done = absurd (done r refl)
 
 -- ---- lists
 

@@ -19,8 +19,8 @@ IsHadBack (Some f) later left = (e : EarlierAnalysis) × (left ≡ Some e)
     × GivesBack e later.table later.members.items f
 
 -- it is, where something is wrong or the sources may not stay
-abbrev pub IsHadBackBy : Option FormerAnalysis → (later : Analysis) → (left : Option EarlierAnalysis)
-    → Judged → Type 0
+abbrev pub IsHadBackBy : Option FormerAnalysis → (later : Analysis)
+    → (left : Option EarlierAnalysis) → Judged → Type 0
 IsHadBackBy former later left (judges.Wrong fault) = IsHadBack former later left
 IsHadBackBy former later left judges.Crossed = IsHadBack former later left
 IsHadBackBy former later left (judges.Sound analysis) = Unit {0}

@@ -170,7 +170,8 @@ fn plan_analysed(
     }
 }
 
-/// What a refactoring does to sources, which are analysed first, if they aren't yet. To `after` goes the table of the new program, where one is made.
+/// What a refactoring does to sources, which are analysed first, if they aren't yet. To `after`
+/// goes the table of the new program, where one is made.
 pub(crate) fn plan_refactoring<L: Ledger>(
     alloc: Global,
     sources: &Sources,

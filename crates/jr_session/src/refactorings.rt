@@ -9,7 +9,8 @@ ghost use Rattle.jr_session.specs.Changes.{put_back, AreOfFiles};
 ghost use Rattle.jr_session.specs.Making.{Fit};
 ghost use Rattle.jr_session.specs.TableTells.{TellsTable};
 ghost use Rattle.jr_session.specs.NewTexts.{with_edits};
-ghost use Rattle.jr_session.specs.Refactoring.{IsChangedBy, IsTriedBy, IsRefactoredBy, CostsRefactoring, loses};
+ghost use Rattle.jr_session.specs.Refactoring.{IsChangedBy, IsTriedBy, IsRefactoredBy};
+ghost use Rattle.jr_session.specs.Refactoring.{CostsRefactoring, loses};
 
 use crate::changes::{Change, Earlier};
 use crate::made::{Made, new_texts};
@@ -51,6 +52,13 @@ fn lost_dependence(lost: DepPair) -> Reply
         first,
         second,
     })
+}
+
+/// Edits of each file, and how many references are respelled by them.
+#[derive(Clone, Copy, Drop)]
+pub(crate) struct PlannedEdits<'a> {
+    pub edits: &'a EditLists,
+    pub respelled: u32,
 }
 
 /// Texts that files of these names get, and how many references are respelled in them.
@@ -174,23 +182,23 @@ impl Session {
     pub(crate) fn refactor<L: Ledger>(
         &mut self,
         alloc: Global,
-        edits: &EditLists,
-        respelled: u32,
+        planned: &PlannedEdits<'_>,
         lost: &mut Option<DepPair>,
         after: &mut After,
         analysed: &mut Option<Analysis>,
         steps: &mut Steps<L>,
     ) -> Result<Reply, AllocError>
-        requires fit { Fit self.old.files edits.now }
+        requires fit { Fit self.old.files planned.now.edits.now }
         requires analysed { IsKeptAnalysis self.old.files analysed.old }
-        requires told { TellsTable (with_edits self.old.files edits.now) analysed.old after.old }
+        requires told { TellsTable (with_edits self.old.files planned.now.edits.now) analysed.old
+            after.old }
         ensures step { IfOk result (λ reply.
-            IsRefactoredBy self.old edits.now respelled (option_map pair_of lost.old)
-            (reply_of reply) self.new) }
+            IsRefactoredBy self.old planned.now.edits.now planned.now.respelled
+            (option_map pair_of lost.old) (reply_of reply) self.new) }
         ensures err { OnErr result (self.new ≡ self.old) }
-        ensures work { CostsRefactoring self.old.files edits.now steps.old steps.new }
+        ensures work { CostsRefactoring self.old.files planned.now.edits.now steps.old steps.new }
     {
-        match new_texts(alloc, &self.sources, edits.as_slice())? {
+        match new_texts(alloc, &self.sources, planned.edits.as_slice())? {
             Made::TooLong { len } => {
                 self.analysed = analysed.take();
                 Ok(Reply::Refused(Refusal::TooLong { len }))
@@ -199,7 +207,7 @@ impl Session {
                 let made = NamedTexts {
                     changes,
                     names,
-                    respelled,
+                    respelled: planned.respelled,
                 };
                 self.change_named(alloc, made, lost, after, analysed, steps)
             }

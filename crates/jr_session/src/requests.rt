@@ -8,6 +8,7 @@ ghost use Rattle.jr_session.specs.Work.{IsWithinWork};
 
 use crate::laws::plans_read;
 use crate::plans::{Planned, RefactoringRequest, plan_refactoring};
+use crate::refactorings::PlannedEdits;
 use crate::sessions::Session;
 use crate::shows::source_error;
 use jr_names::{DepPair, Reply};
@@ -91,15 +92,11 @@ impl Session {
             } => {
                 let mut analysed = self.analysed.take();
                 let mut lost = lost;
-                let reply = self.refactor(
-                    alloc,
-                    &edits,
+                let made = &PlannedEdits {
+                    edits: &edits,
                     respelled,
-                    &mut lost,
-                    after,
-                    &mut analysed,
-                    steps,
-                );
+                };
+                let reply = self.refactor(alloc, made, &mut lost, after, &mut analysed, steps);
                 forget_analysis(analysed);
                 forget_pair(lost);
                 reply

@@ -223,8 +223,8 @@ fn judge<L: Ledger>(
 }
 
 // Gives files other texts, and what these read as, unless something is wrong with the sources that
-// have them, or they may not stay: then the old texts and readings are there again, and so they are where memory is
-// wanted. The texts that stay are not read again.
+// have them, or they may not stay: then the old texts and readings are there again, and so they are
+// where memory is wanted. The texts that stay are not read again.
 fn try_by<L: Ledger>(
     alloc: Global,
     sources: &mut Sources,
@@ -310,8 +310,8 @@ fn analysis_of(earlier: Option<EarlierAnalysis>) -> Option<Analysis>
 }
 
 /// Gives files other texts, and what these read as, unless something is wrong with the sources that
-/// have them, or they may not stay: then the old texts and readings are there again, and so they are where memory is
-/// wanted. The texts that stay are not read again.
+/// have them, or they may not stay: then the old texts and readings are there again, and so they
+/// are where memory is wanted. The texts that stay are not read again.
 ///
 /// `after` tells of the table of the sources that have the new texts, so that no other is made.
 /// What was analysed of the old texts is taken, so that members that keep what is bound of them

@@ -36,10 +36,10 @@ pub returns-in-Ok-Crossed-clause-analysed : goal.returns-in-Ok-Crossed-clause-an
 returns-in-Ok-Crossed-clause-analysed g c =
     let tried = subst (IsTried c.args.sources.now c.args.texts.changes.items c.args.texts.may_stay c.try_by.new.sources) c.in-Ok-Crossed.field-0-is c.in-Ok-Crossed.ensures.tried in
     let left = subst (IsLeft c.earlier_of-earlier.result c.try_by.new.earlier) c.in-Ok-Crossed.field-0-is c.in-Ok-Crossed.ensures.left in
-    subst (λ (ss : List Source). IsKeptAnalysis ss c.analysis_of.result) (sym tried.0)
-    (kept_again c.args.sources.now c.args.analysed.now c.take.result c.requires.analysed c.take.ensures.value c.earlier_of-earlier.result c.try_by.new.earlier (λ e h. (c.earlier_of-earlier.ensures.of e h).0) left c.analysis_of.result c.analysis_of.ensures)
+    subst (λ (ss : List Source). IsKeptAnalysis ss c.analysis_of-in-Ok-Crossed.result) (sym tried.0)
+    (kept_again c.args.sources.now c.args.analysed.now c.take.result c.requires.analysed c.take.ensures.value c.earlier_of-earlier.result c.try_by.new.earlier (λ e h. (c.earlier_of-earlier.ensures.of e h).0) left c.analysis_of-in-Ok-Crossed.result c.analysis_of-in-Ok-Crossed.ensures)
 
 pub returns-in-Ok-Crossed-clause-filled : goal.returns-in-Ok-Crossed-clause-filled
 returns-in-Ok-Crossed-clause-filled g c =
     let left = subst (IsLeft c.earlier_of-earlier.result c.try_by.new.earlier) c.in-Ok-Crossed.field-0-is c.in-Ok-Crossed.ensures.left in
-    filled_again c.args.sources.now c.args.analysed.now c.take.result c.requires.analysed c.take.ensures.value c.earlier_of-earlier.result c.try_by.new.earlier c.earlier_of-earlier.ensures.given left c.analysis_of.result c.analysis_of.ensures
+    filled_again c.args.sources.now c.args.analysed.now c.take.result c.requires.analysed c.take.ensures.value c.earlier_of-earlier.result c.try_by.new.earlier c.earlier_of-earlier.ensures.given left c.analysis_of-in-Ok-Crossed.result c.analysis_of-in-Ok-Crossed.ensures
