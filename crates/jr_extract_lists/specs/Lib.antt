@@ -1,0 +1,4 @@
+pub mod Targets
+pub mod WrittenTypes
+pub mod Texts
+pub mod Walked
