@@ -17,7 +17,7 @@ use Rattle.jr_members.proofs.Anywhere.{IsAt}
 use Rattle.jr_program_laws.specs.FileParts.{begins}
 use Rattle.jr_rewrite.specs.Rewritten.{Rewritten}
 use Rattle.jr_rewrite.specs.Spots.{Spotted, nowhere, spotted, OrMembers, OrClass}
-use Rattle.jr_rewrite.specs.Rewrites.{Choosing, RewritesHead, TransformsMember, TransformsByKey, TransformsClass, TransformsMembers, TransformsOne, TransformsClasses, TransformsUnit}
+use Rattle.jr_rewrite.specs.Rewrites.{Choosing, RewritesHead, TransformsMember, TransformsClass, TransformsMembers, TransformsOne, TransformsClasses, TransformsUnit}
 use Rattle.jr_kept_references.specs.MembersAlong.{MembersStay, ClassStays}
 use Rattle.jr_one_plans.proofs.OneSpot.{SpottedAgree}
 use Rattle.jr_rename_laws.specs.ImageLaws.{no_mark}

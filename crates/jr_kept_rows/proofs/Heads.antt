@@ -1,6 +1,6 @@
 -- Heads of classes and of members are rewritten to themselves, and so are initializers of fields:
 -- each of their words may stay, and one thing is chosen for it.
-use Rattle.std.proofs.Common.{◌≡◌, ℕ, suc, List, [], ◌∷◌, Option, Some, None, Bool, true, false, length, refl, sym, ap, subst, ◌∙◌, inl, inr}
+use Rattle.std.proofs.Common.{◌≡◌, ℕ, suc, List, [], ◌∷◌, Option, Some, None, Bool, true, false, refl, ap, subst, ◌∙◌, inl, inr}
 use Rattle.jr_text.specs.declared.spans.Span.{Span}
 use Rattle.jr_ast.specs.Tree as tree
 use Rattle.jr_ast.specs.StatementTree as statement
@@ -22,9 +22,9 @@ use Rattle.jr_members.specs.WrittenMembers.{WrittenMember}
 use Rattle.jr_members.specs.WrittenLaws.{IsWritten, MembersAreWritten}
 use Rattle.jr_bind.specs.Programs.{Program, IsProgram, units_of}
 use Rattle.jr_bind.specs.SuperPlaces.{writes_super}
-use Rattle.jr_program_laws.specs.FoundTypes.{TypeIsFound, MaybeTypeIsFound, ParamTypesAreFound, MaybeParentIsFound, ParentIsFound}
+use Rattle.jr_program_laws.specs.FoundTypes.{MaybeTypeIsFound, ParamTypesAreFound, MaybeParentIsFound, ParentIsFound}
 use Rattle.jr_rewrite.specs.Respellings.{stays}
-use Rattle.jr_rewrite.specs.Rewritten.{Rewritten, plain, within, joined}
+use Rattle.jr_rewrite.specs.Rewritten.{Rewritten, plain}
 use Rattle.jr_rewrite.specs.Spots.{Asks, Spotted}
 use Rattle.jr_rewrite.specs.Rewrites.{Choosing, declared_by, DeclaredOut, RewritesType, RewritesParams, RewritesResult, RewritesParent, RewritesHead, TransformsMaybe, TransformsMember}
 use Rattle.jr_images.specs.TextLaws.{RowsAreNamed}

@@ -4,11 +4,10 @@ use Rattle.std.specs.Prelude.{nat_eq, slice_get}
 use Rattle.jr_text.specs.declared.spans.Span.{Span}
 use Rattle.jr_ast.specs.Tree as tree
 use Rattle.jr_ast.specs.MemberTree as syntax
-use Rattle.jr_grammar.specs.Layout.{itself}
 use Rattle.jr_table.specs.Keys.{ClassKey}
-use Rattle.jr_table.specs.Context.{Context, Local}
+use Rattle.jr_table.specs.Context.{Context}
 use Rattle.jr_table.specs.Binding.{Role}
-use Rattle.jr_bind.specs.Programs.{Program, IsProgram}
+use Rattle.jr_bind.specs.Programs.{Program}
 use Rattle.jr_cursor.specs.TargetLaws.{OneIsTarget}
 use Rattle.jr_first_values.specs.Laws.{FirstValuesAreOne}
 use Rattle.jr_rewrite.specs.Spots.{Asks, Spotted}

@@ -1,7 +1,6 @@
 -- Where fields have the trees that they had, and rows stay, static fields begin with what they began
 -- with: what they begin with in the new program they may begin with in the old one, and that is one.
 use Rattle.std.proofs.Common.{◌≡◌, ℕ, List, [], ◌∷◌, map, Option, Some, None, Bool, true, false, refl, sym, ap, subst, ◌∙◌, inl, inr}
-use Rattle.std.specs.Prelude.{◌⊎◌}
 use Rattle.std.proofs.lemmas.Option.{same_Some}
 use Rattle.jr_text.specs.declared.spans.Span.{Span}
 use Rattle.jr_ast.specs.Tree as tree
@@ -9,13 +8,12 @@ use Rattle.jr_ast.specs.MemberTree as syntax
 use Rattle.jr_ast.specs.Remarked.{map_modifier, map_member}
 use Rattle.jr_grammar.specs.Layout.{itself}
 use Rattle.jr_grammar.specs.Bare.{bare}
-use Rattle.jr_runs.specs.Core as core
 use Rattle.jr_runs.specs.FirstValues.{First, gives, makes, default_of}
 use Rattle.jr_runs.specs.KeyMaps.{KeyMap, same_keys, value_image}
 use Rattle.jr_runs.specs.Rows as core_rows
 use Rattle.jr_runs.specs.Values as core_value
-use Rattle.jr_table.specs.Keys.{ClassKey, FieldKey, MethodKey, CtorKey}
-use Rattle.jr_table.specs.Decls.{MemberKey, field_decl}
+use Rattle.jr_table.specs.Keys.{ClassKey, FieldKey}
+use Rattle.jr_table.specs.Decls.{field_decl}
 use Rattle.jr_table.specs.Rows.{Row}
 use Rattle.jr_table.specs.SameKeys.{same_class, same_field, same_method, same_ctor}
 use Rattle.jr_table.specs.DeclaredItems.{class_key}
@@ -29,9 +27,9 @@ use Rattle.jr_code.specs.CodedFields.{FirstOf, StaticFirst, ClassFirsts, Members
 use Rattle.jr_code.specs.Exchanged.{exchanged, exchange, or_image, first as first_that, keys_by, class_in, field_in, method_in, ctor_in}
 use Rattle.jr_code.proofs.RunRowsStand.{row_or}
 use Rattle.jr_first_values.specs.Laws.{FirstValuesAreOne}
-use Rattle.jr_first_values.proofs.Forms.{value_of, first_value, same_value}
+use Rattle.jr_first_values.proofs.Forms.{first_value, same_value}
 use Rattle.jr_image_code.specs.KeysIn.{keys_by as map_by}
-use Rattle.jr_kept_runs.specs.KeepsRuns.{KeepsFirstValues, AreCode, AreFirsts}
+use Rattle.jr_kept_runs.specs.KeepsRuns.{KeepsFirstValues}
 use Rattle.jr_kept_runs.specs.Laws.{sources_of}
 use Rattle.jr_kept_runs.proofs.SameBodies.{static_same}
 use Rattle.jr_local.specs.Scopes.{same_images}

@@ -1,6 +1,5 @@
 -- Where a refactoring leaves keys and rows, what places without locals see, and all but lists of
 -- statements, the program that is read as its trees has the same rows and the same first values.
-use Rattle.std.proofs.Common.{◌≡◌, List, map}
 use Rattle.jr_text.specs.declared.spans.Span.{Span}
 use Rattle.jr_first_values.specs.Laws.{FirstValuesAreOne}
 use Rattle.jr_bind.specs.Programs.{Program}

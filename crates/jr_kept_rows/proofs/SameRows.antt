@@ -1,14 +1,12 @@
 -- Where files declare the same, their rows are the same.
-use Rattle.std.proofs.Common.{◌≡◌, ℕ, zero, suc, List, [], ◌∷◌, Some, refl, sym, ap, subst, ◌∙◌, arith}
+use Rattle.std.proofs.Common.{◌≡◌, ℕ, suc, List, [], ◌∷◌, Some, refl, sym, ap, subst, ◌∙◌, arith}
 use Rattle.std.specs.Prelude.{◌+◌, map, slice_get}
 use Rattle.jr_text.specs.declared.spans.Span.{Span}
 use Rattle.jr_ast.specs.MemberTree as syntax
 use Rattle.jr_ast.specs.Remarked.{map_unit}
 use Rattle.jr_grammar.specs.Layout.{itself}
-use Rattle.jr_table.specs.Decls.{MemberKey}
 use Rattle.jr_table.specs.DeclaredItems.{DeclaredItem, declarations_of}
 use Rattle.jr_table.specs.ProgramRows.{AreProgramRows}
-use Rattle.jr_table.specs.Errors.{Part}
 use Rattle.jr_members.specs.WrittenLaws.{IsWritten}
 use Rattle.jr_bind.specs.Programs.{Program, IsProgram, units_of}
 use Rattle.jr_build_rows.proofs.OneRows.{program_once}
