@@ -6,9 +6,8 @@
 -- what is known of the new table: `NewTables`, `NewTells`. One answer: `OneAnswer` (edits, undoing,
 -- redoing), `OneFault`, `OneWrong`, `OneRefactoring`, `RenameRequest`, `ExtractRequest`, `OneStep`;
 -- `PlanReasons`, `FirstReason`. Promises: `KeptPrograms` (of any refactoring, by what it shows),
--- `RowsStay` (of one that keeps all rows), `ExtractedPrograms`, `NewPrograms` (of a rename, and of
--- all), `NewTrees`, `NewRows`,
--- `BareReferences` (what a tree's references find doesn't depend on its marks), `TakenBack`.
+-- `RowsStay` (of those that keep all rows), `NewPrograms` (of a rename, and of all), `NewTrees`,
+-- `NewRows`, `BareReferences` (what a tree's references find doesn't depend on its marks), `TakenBack`.
 pub mod Histories
 pub mod Places
 pub mod KeptLaws
@@ -53,7 +52,6 @@ pub mod RequestSteps
 pub mod NewTables
 pub mod KeptPrograms
 pub mod RowsStay
-pub mod ExtractedPrograms
 pub mod NewPrograms
 pub mod Staying
 pub mod HadBack

@@ -29,12 +29,12 @@ use Rattle.jr_reference_changes.specs.Family.{KeepsFamilies, FamiliesAreWhole, F
 use Rattle.jr_reference_changes.specs.Fronts.{FrontsStay}
 use Rattle.jr_reference_changes.specs.Names.{PlansChangeNames}
 use Rattle.jr_reference_changes.specs.PlacesInFiles.{PlansAreOfPlaces}
+use Rattle.jr_kept_rows.specs.Staying.{ExtractsKeepPrograms}
 use Rattle.jr_kept_runs.specs.Laws.{RenamesKeepRuns, RenamesKeepFirstValues, RenamesKeepHistories}
 use Rattle.jr_sources.specs.Whole.{IsProgramOf}
 use Rattle.jr_session.specs.NewTexts.{with_edits}
 use Rattle.jr_session.specs.Asked.{KeepsNames, rename, extract}
 use Rattle.jr_session.specs.PlansRead.{PlansRead}
-use Rattle.jr_session.specs.ExtractedPrograms.{ExtractsKeepRows, ExtractsKeepFirstValues}
 use Rattle.jr_session.specs.Promises.{StepsKeepPrograms}
 use Rattle.jr_session.specs.Refactored.{IsPlan, Refactors}
 use Rattle.jr_session.specs.States.{State}
@@ -44,7 +44,7 @@ use Rattle.jr_session.proofs.KeptPrograms.{HasOneCodeEach, IsShown, keeps_progra
 use Rattle.jr_session.proofs.NewTrees.{units_are, became, trees as new_trees}
 use Rattle.jr_session.proofs.PlansRead.{rename_reads}
 use Rattle.jr_session.proofs.RenameRequest.{plan_of}
-use Rattle.jr_session.proofs.ExtractedPrograms.{extract_shown}
+use Rattle.jr_session.proofs.RowsStay.{extract_shown}
 use Rattle.jr_session.proofs.AskedSteps.{rename_answers, extract_answers, done_of}
 
 -- ---- trees
@@ -138,13 +138,13 @@ module _ (one : OneReading Span) (named : RowsAreNamed Span) (dots : NamesHaveNo
 
 -- ---- all steps
 
-pub steps_keep : OneReading Span → RowsAreNamed Span → NamesHaveNoDot → PlansBecome Span → NewTextsRead → ReferencesStay → NewProgramsAreImages → BuiltRowsAreImages Span Span → ConstructorsGiveImages Span Span → DispatchIsKept → RenamesKeepRuns → RenamesKeepFirstValues → RenamesKeepHistories → FrontsStay → FamiliesAreWhole → FamiliesAreKept → PlansAreOfPlaces → PlansChangeNames → HasOneCodeEach → UntouchedBytesMove → PlansRead → ExtractsKeepRows → ExtractsKeepFirstValues → StepsKeepPrograms
-steps_keep one named dots plans read references images built ctors dispatch runs firsts histories fronts family families places on_names coded move plans_read rows_stay values_stay s t (step.Rename file at new) reply h =
+pub steps_keep : OneReading Span → RowsAreNamed Span → NamesHaveNoDot → PlansBecome Span → NewTextsRead → ReferencesStay → NewProgramsAreImages → BuiltRowsAreImages Span Span → ConstructorsGiveImages Span Span → DispatchIsKept → RenamesKeepRuns → RenamesKeepFirstValues → RenamesKeepHistories → FrontsStay → FamiliesAreWhole → FamiliesAreKept → PlansAreOfPlaces → PlansChangeNames → HasOneCodeEach → UntouchedBytesMove → PlansRead → ExtractsKeepPrograms → StepsKeepPrograms
+steps_keep one named dots plans read references images built ctors dispatch runs firsts histories fronts family families places on_names coded move plans_read extracts_stay s t (step.Rename file at new) reply h =
     λ done.
     (let r = done_of s (rename file at new) reply t (rename_answers s file at new reply t h) done in
     keeps_program s t (rename file at new) r.0 r.1 r.2 coded move (shown one named dots plans read references images built ctors dispatch runs firsts histories fronts family families places on_names s t file at new r.0 r.1 r.2))
-steps_keep one named dots plans read references images built ctors dispatch runs firsts histories fronts family families places on_names coded move plans_read rows_stay values_stay s t (step.ExtractLocal file from to new) reply h =
+steps_keep one named dots plans read references images built ctors dispatch runs firsts histories fronts family families places on_names coded move plans_read extracts_stay s t (step.ExtractLocal file from to new) reply h =
     λ done.
     (let r = done_of s (extract file from to new) reply t (extract_answers s file from to new reply t h) done in
-    keeps_program s t (extract file from to new) r.0 r.1 r.2 coded move (extract_shown one plans_read rows_stay values_stay s t file from to new r.0 r.1 r.2))
-steps_keep one named dots plans read references images built ctors dispatch runs firsts histories fronts family families places on_names coded move plans_read rows_stay values_stay s t of reply h = tt
+    keeps_program s t (extract file from to new) r.0 r.1 r.2 coded move (extract_shown one plans_read extracts_stay s t file from to new r.0 r.1 r.2))
+steps_keep one named dots plans read references images built ctors dispatch runs firsts histories fronts family families places on_names coded move plans_read extracts_stay s t of reply h = tt

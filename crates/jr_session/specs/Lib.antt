@@ -19,7 +19,6 @@ pub mod Refactored
 pub mod Asked
 pub mod RenameReasons
 pub mod PlansRead
-pub mod ExtractedPrograms
 pub mod RequestView
 pub mod Planning
 pub mod Making

@@ -1,5 +1,4 @@
 //! What holds of each step.
-ghost use Rattle.jr_session.specs.ExtractedPrograms.{ExtractsKeepFirstValues, ExtractsKeepRows};
 ghost use Rattle.jr_session.specs.NewTables.{NewTables};
 ghost use Rattle.jr_session.specs.PlansRead.{PlansRead};
 ghost use Rattle.jr_session.specs.Promises.{StepsKeepPrograms};
@@ -10,6 +9,7 @@ use jr_dependence_lines::lines_are_one;
 use jr_dispatch::dispatch_is_kept;
 use jr_first_values::first_values_stand;
 use jr_images::rows_are_named;
+use jr_kept_rows::extracts_keep_programs;
 use jr_kept_runs::{renames_keep_histories, renames_keep_runs};
 use jr_lex::one_answer;
 use jr_lines::lines_are_told;
@@ -97,13 +97,6 @@ pub fn accepted_refactorings_keep_programs()
     plans_read();
     extracts_keep_programs();
 }
-
-/// Where a local is extracted, each program that is read as the planned trees has the rows of the
-/// old one, and its static fields begin with what they began with.
-pub(crate) fn extracts_keep_programs()
-    ensures rows { ExtractsKeepRows }
-    ensures first_values { ExtractsKeepFirstValues }
-{}
 
 /// Whatever is asked, what a plan's edits make of each file fits it, and reads as its new tree.
 pub(crate) fn plans_read()
