@@ -1,7 +1,6 @@
 -- How a type is written: by what is chosen for its class.
 use Rattle.std.proofs.Common.{◌≡◌, ℕ, zero, suc, Bool, true, false, List, [], ◌∷◌, length, ◌≤◌, map, Option, Some, None, codes, refl, sym, ap, subst, ◌∙◌, inl, inr, arith}
 use Rattle.std.specs.Prelude.{slice_get, if◌then◌else◌}
-use Rattle.jr_text.specs.declared.spans.Span.{Span}
 use Rattle.jr_ast.specs.Tree as tree
 use Rattle.jr_grammar.specs.Layout.{itself}
 use Rattle.jr_table.specs.Keys.{ClassKey, int, boolean, class}

@@ -1,5 +1,5 @@
-use Rattle.std.proofs.Common.{map, [], ◌∷◌, ap}
-use Rattle.jr_rewrite.specs.ChangeView.{change_of, changes_of}
+use Rattle.std.proofs.Common.{map}
+use Rattle.jr_rewrite.specs.ChangeView.{changes_of}
 use Rattle.jr_new_words.specs.ChoiceView.{lost_of}
 use Rattle.jr_new_bodies.specs.Effects.{Effect}
 use Rattle.jr_extract_lists.proofs.starts.begin_list.Goals as goal

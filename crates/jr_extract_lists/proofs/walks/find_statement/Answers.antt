@@ -3,7 +3,6 @@ use Rattle.std.proofs.lemmas.Result.{IfOk-weaker}
 use Rattle.jr_new_words.specs.Mappings.{Renumbering}
 use Rattle.jr_new_words.specs.MappingView.{renumbering_of}
 use Rattle.jr_local_parts.specs.Begun.{BeginsBody}
-use Rattle.jr_extract_lists.specs.Walked.{bare}
 use Rattle.jr_extract_lists.proofs.Places.{known_tables}
 use Rattle.jr_extract_lists.proofs.walks.find_statement.Goals as goal
 

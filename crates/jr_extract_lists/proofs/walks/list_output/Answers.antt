@@ -1,4 +1,4 @@
-use Rattle.std.proofs.Common.{◌≡◌, ◌∷◌, [], refl, sym, ap, subst, ◌∙◌}
+use Rattle.std.proofs.Common.{◌∷◌, [], refl, sym, ap, subst, ◌∙◌}
 use Rattle.std.specs.Prelude.{string_bytes}
 use Rattle.jr_text.specs.declared.spans.Span.{Span}
 use Rattle.jr_bind.specs.Programs.{Program}
@@ -7,7 +7,7 @@ use Rattle.jr_new_words.specs.MappingView.{renumbering_of}
 use Rattle.jr_new_bodies.specs.OutputView.{gathered}
 use Rattle.jr_new_bodies.specs.Spotting.{PartSpot}
 use Rattle.jr_extract_lists.specs.Targets.{IsTarget}
-use Rattle.jr_extract_lists.specs.Walked.{FramesList, PutsName}
+use Rattle.jr_extract_lists.specs.Walked.{FramesList}
 use Rattle.jr_extract_lists.proofs.Numbers.{numbers, outer_list, inner_list, piece_frames}
 use Rattle.jr_extract_lists.proofs.Spotting.{puts_name}
 use Rattle.jr_extract_lists.proofs.walks.list_output.Goals as goal

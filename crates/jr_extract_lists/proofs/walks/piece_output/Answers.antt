@@ -1,7 +1,7 @@
 use Rattle.std.proofs.Common.{◌∷◌, [], sym, ap, subst, ◌∙◌}
 use Rattle.jr_new_words.specs.Mappings.{MadeLocal, Renumbering}
 use Rattle.jr_new_words.specs.MappingView.{renumbering_of}
-use Rattle.jr_extract_lists.specs.Walked.{FramesPiece, made_by}
+use Rattle.jr_extract_lists.specs.Walked.{FramesPiece}
 use Rattle.jr_extract_lists.proofs.Numbers.{numbers, outer_piece, inner_piece, place_frames}
 use Rattle.jr_extract_lists.proofs.walks.piece_output.Goals as goal
 
