@@ -1,6 +1,7 @@
 -- `WrittenTypes`: how a type is written. `FoundTargets`: what is found, and its body. `Places`: where walks
 -- are. `Pieces`: the expression. `Lists`: the statement, and those behind it. `Walking`, `Passing`: walks, step
--- by step. `Numbers`, `Spotting`: what they take. `Listing`: the whole list.
+-- by step. `Numbers`, `Spotting`: what they take. `Listing`: the whole list. `Single`: the item of a list of at
+-- most one.
 mod WrittenTypes
 mod FoundTargets
 mod Places
@@ -11,3 +12,4 @@ mod Walking
 mod Passing
 mod Numbers
 mod Spotting
+mod Single

@@ -1,5 +1,5 @@
 -- The list from the statement on: the declaration, the statement, and those behind it.
-use Rattle.std.proofs.Common.{◌≡◌, ◌≢◌, ℕ, ◌+◌, List, ◌∷◌, ◌++◌, refl, sym, ap, subst, ◌∙◌, arith}
+use Rattle.std.proofs.Common.{◌≡◌, ◌≢◌, ℕ, ◌+◌, List, ◌∷◌, ◌++◌, map, Option, refl, sym, ap, subst, ◌∙◌, arith}
 use Rattle.jr_text.specs.declared.spans.Span.{Span}
 use Rattle.jr_ast.specs.Tree as tree
 use Rattle.jr_ast.specs.StatementTree as statement
@@ -15,6 +15,9 @@ use Rattle.jr_rewrite.specs.ChangeView.{change_of}
 use Rattle.jr_rewrite.specs.Woven.{with_changes}
 use Rattle.jr_rewrite.specs.declared.changes.Change as raw_change
 use Rattle.jr_layout.specs.Layouts.{IsGap}
+use Rattle.std.specs.Prelude.{option_to_list}
+use Rattle.jr_new_words.specs.declared.choices.Lost as raw_lost
+use Rattle.jr_new_words.specs.ChoiceView.{lost_of}
 use Rattle.jr_new_words.specs.Mappings.{Renumbering, Mapping}
 use Rattle.jr_new_bodies.specs.declared.here.Here as raw_here
 use Rattle.jr_new_bodies.specs.declared.outputs.Output as raw_output
@@ -115,8 +118,8 @@ module _ (p : Program Span) (t : raw.Target) (x : IsTarget p t) where
         ∙ ap (λ (e : Effect). both e (both (effect_of listed.first) (effect_of listed.rest))) begun
         ∙ (λ i. record { changes = put_is i ∷ (listed.first.changes ++ listed.rest.changes); respelled = count i; losses = (moved_so.2 i).losses ++ (listed.first.losses ++ listed.rest.losses) })
 
-    pub all_listed : (out : raw_output.Output) → gathered out ≡ new → Listed x piece_effect (record { out = out; lost = w.lost })
-    all_listed out is = record {
+    pub all_listed : (out : raw_output.Output) (lost : Option raw_lost.Lost) → option_to_list lost ≡ w.losses.items → gathered out ≡ new → Listed x piece_effect (record { out = out; lost = lost })
+    all_listed out lost one is = record {
       type = type;
       o = whole;
       becomes = record {
@@ -138,5 +141,5 @@ module _ (p : Program Span) (t : raw.Target) (x : IsTarget p t) where
       };
       piece_is = sym moved_so.2;
       out = is ∙ effect_is;
-      lost = tells.losses;
+      lost = ap (map lost_of) one ∙ tells.losses;
     }

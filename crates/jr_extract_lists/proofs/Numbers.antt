@@ -32,35 +32,35 @@ module _ (p : Program Span) (t : raw.Target) (x : IsTarget p t) (firsts : List (
   inner_list are deep is = λ i. numbers (are i) ((behind_it ∙ add-one t.number) i) (made_by t ∷ []) (is i)
 
 pub piece_can : (t : raw.Target) (at : StatementPlace) (e : Effect) → HasPiece t at e → CanWalk t
-piece_can t at e (p, x, h, moves) = (p, x, tt)
+piece_can t at e (p, (x, (h, moves))) = (p, (x, tt))
 
 -- ---- of the calls' numbers, from where the body begins
 
 module _ (t : raw.Target) (o r : Renumbering) where
   pub frames_piece_can : FramesPiece t o r → CanWalk t
-  frames_piece_can (p, x, outer, inner) = (p, x, tt)
+  frames_piece_can (p, (x, (outer, inner))) = (p, (x, tt))
 
   pub frames_piece_bare : FramesPiece t o r → IsBare (renumbered o)
-  frames_piece_bare (p, x, outer, inner) = (ap (λ (q : Renumbering). q.made) outer, ap (λ (q : Renumbering). q.depth) outer)
+  frames_piece_bare (p, (x, (outer, inner))) = (ap (λ (q : Renumbering). q.made) outer, ap (λ (q : Renumbering). q.depth) outer)
 
   pub frames_piece_walks : (h : raw_here.Here) → BeginsBody t.body o h → FramesPiece t o r → WalksPiece t h r
-  frames_piece_walks h begun (p, x, outer, inner) = (p, (x, subst (λ (q : Renumbering). BeginsBody t.body q h) outer begun, inner))
+  frames_piece_walks h begun (p, (x, (outer, inner))) = (p, (x, (subst (λ (q : Renumbering). BeginsBody t.body q h) outer begun, inner)))
 
   module _ (ps : List PartSpot) (e : Effect) where
     pub frames_list_can : FramesList t o r ps e → CanWalk t
-    frames_list_can (p, x, outer, inner, puts, moves) = (p, x, tt)
+    frames_list_can (p, (x, (outer, inner, puts, moves))) = (p, (x, tt))
 
     pub frames_list_bare : FramesList t o r ps e → IsBare (renumbered o)
-    frames_list_bare (p, x, outer, inner, puts, moves) = (ap (λ (q : Renumbering). q.made) outer, ap (λ (q : Renumbering). q.depth) outer)
+    frames_list_bare (p, (x, (outer, inner, puts, moves))) = (ap (λ (q : Renumbering). q.made) outer, ap (λ (q : Renumbering). q.depth) outer)
 
     pub frames_list_walks : (h : raw_here.Here) → BeginsBody t.body o h → FramesList t o r ps e → WalksList t h r ps e
-    frames_list_walks h begun (p, x, outer, inner, puts, moves) = (p, (x, subst (λ (q : Renumbering). BeginsBody t.body q h) outer begun, inner, puts, moves))
+    frames_list_walks h begun (p, (x, (outer, inner, puts, moves))) = (p, (x, (subst (λ (q : Renumbering). BeginsBody t.body q h) outer begun, inner, puts, moves)))
 
 -- ---- of a place at the statement
 
 module _ (t : raw.Target) (firsts : List (Option ℕ)) (next : ℕ) (behind_it : next ≡ t.number + 1) (at : StatementPlace) where
   pub place_frames : firsts ≡ numbers_from 0 t.number ++ None ∷ [] → HasPlace t at → FramesPiece t (numbers firsts next [] 0) (numbers firsts next (made_by t ∷ []) at.depth)
-  place_frames are (p, x, place) = (p, (x, outer_piece p t x firsts next behind_it are, inner_piece p t x firsts next behind_it are at.depth (sym place.scope)))
+  place_frames are (p, (x, place)) = (p, (x, (outer_piece p t x firsts next behind_it are, inner_piece p t x firsts next behind_it are at.depth (sym place.scope))))
 
   pub piece_frames : (e : Effect) (ps : List PartSpot) → firsts ≡ numbers_from 0 t.number → ((p : Program Span) (x : IsTarget p t) → PutsName x ps) → HasPiece t at e → FramesList t (numbers firsts next [] 0) (numbers firsts next (made_by t ∷ []) at.depth) ps e
-  piece_frames e ps are puts (p, x, place, moves) = (p, (x, outer_list p t x firsts next behind_it are, inner_list p t x firsts next behind_it are at.depth (sym place.scope), puts p x, moves))
+  piece_frames e ps are puts (p, (x, (place, moves))) = (p, (x, (outer_list p t x firsts next behind_it are, inner_list p t x firsts next behind_it are at.depth (sym place.scope), puts p x, moves)))

@@ -27,23 +27,23 @@ use Rattle.jr_extract_lists.proofs.Lists.{deep, first_ready, rest_ready, first_g
 use Rattle.jr_extract_lists.proofs.Walking.{first_is, rest_is}
 
 pub statements_can : (t : raw.Target) (at : ElementPlace) (h : raw_here.Here) (ps : List PartSpot) → WalksStatements t at h ps → CanWalk t
-statements_can t at h ps (p, x, a, e, puts) = (p, x, tt)
+statements_can t at h ps (p, (x, (a, e, puts))) = (p, (x, tt))
 
 pub rest_can : (t : raw.Target) (at : ElementPlace) (h : raw_here.Here) (n : ℕ) → WalksRest t at h n → CanWalk t
-rest_can t at h n (p, x, a, e) = (p, x, tt)
+rest_can t at h n (p, (x, (a, e))) = (p, (x, tt))
 
 pub statements_deep : SelectedAreReady → (t : raw.Target) (at : ElementPlace) (h : raw_here.Here) (ps : List PartSpot) → WalksStatements t at h ps → at.depth ≤ length t.path.now.steps.items
-statements_deep ready t at h ps (p, x, a, e, puts) = deep p t x at e ready
+statements_deep ready t at h ps (p, (x, (a, e, puts))) = deep p t x at e ready
 
 module _ (ready : SelectedAreReady) (t : raw.Target) (at : ElementPlace) (h i : raw_here.Here) (s : statement.Stmt Span) (ss : statement.Stmts Span) (is : stmts_of t.list.now ≡ statement.more s ss) where
   pub first_may : (spots : raw_spots.Spots) → i ≡ with_spots h spots → (ps : List PartSpot) → WalksStatements t at h ps → (path : List ℕ) → path ≡ take at.depth t.path.now.steps.items → StmtReady itself Anywhere i at.next path at.base s
-  first_may spots same ps (p, x, a, e, puts) path path_is =
+  first_may spots same ps (p, (x, (a, e, puts))) path path_is =
       subst (λ (j : raw_here.Here). StmtReady itself Anywhere j at.next path at.base s) (sym same)
       (subst (λ (q : List ℕ). StmtReady itself Anywhere (with_spots h spots) at.next q at.base s) (sym path_is)
       (subst (λ (y : statement.Stmt Span). StmtReady itself Anywhere (with_spots h spots) at.next (take at.depth t.path.now.steps.items) at.base y) (sym (first_is p t x s ss is)) (first_ready p t x at e ready h a)))
 
   pub rest_may : (spots : raw_spots.Spots) → i ≡ with_spots h spots → (n : ℕ) → WalksRest t at h n → (path : List ℕ) (step : ℕ) → path ≡ take (at.depth - 1) t.path.now.steps.items → step ≡ at.step + 1 → StmtsReady itself Anywhere i n path step at.base ss
-  rest_may spots same n (p, x, a, e) path step path_is step_is =
+  rest_may spots same n (p, (x, (a, e))) path step path_is step_is =
       subst (λ (j : raw_here.Here). StmtsReady itself Anywhere j n path step at.base ss) (sym same)
       (subst (λ (q : List ℕ). StmtsReady itself Anywhere (with_spots h spots) n q step at.base ss) (sym path_is)
       (subst (λ (k : ℕ). StmtsReady itself Anywhere (with_spots h spots) n (take (at.depth - 1) t.path.now.steps.items) k at.base ss) (sym step_is)
@@ -82,10 +82,10 @@ abbrev pub Passes : (t : raw.Target) (at : ElementPlace) (h i : raw_here.Here) (
 Passes t at h i ps n old new = (p : Program Span) (x : IsTarget p t) → AtStatement x (from_there x) h → IsElement x at → PutsName x ps → PassesFirst x n h i old new
 
 pub first_known : (t : raw.Target) (at : ElementPlace) (h i : raw_here.Here) (ps : List PartSpot) (n : ℕ) (old new : Effect) → WalksStatements t at h ps → Passes t at h i ps n old new → IsKnown i
-first_known t at h i ps n old new (p, x, a, e, puts) passes = (passes p x a e puts).behind.known
+first_known t at h i ps n old new (p, (x, (a, e, puts))) passes = (passes p x a e puts).behind.known
 
 pub first_then : (t : raw.Target) (at : ElementPlace) (h i : raw_here.Here) (ps : List PartSpot) (n : ℕ) (old new : Effect) → WalksStatements t at h ps → Passes t at h i ps n old new → WalksRest t at i n
-first_then t at h i ps n old new (p, x, a, e, puts) passes = (p, (x, (passes p x a e puts).behind, e))
+first_then t at h i ps n old new (p, (x, (a, e, puts))) passes = (p, (x, ((passes p x a e puts).behind, e)))
 
 pub both_listed : (p : Program Span) (t : raw.Target) (x : IsTarget p t) (old mid new : Effect) → GivesFirst x old mid → GivesRest x mid new → IsListed x old new
 both_listed p t x old mid new (first, first_is, one) (rest, rest_is, two) =

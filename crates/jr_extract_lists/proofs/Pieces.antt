@@ -17,6 +17,7 @@ use Rattle.jr_images.specs.Spelling.{choosing as chosen_by}
 use Rattle.jr_new_words.specs.Mappings.{Renumbering, Mapping, region_of}
 use Rattle.jr_new_bodies.specs.declared.here.Here as raw_here
 use Rattle.jr_new_bodies.specs.Known.{rows_of, context_of, mapping_of, IsKnown, ExpReady}
+use Rattle.jr_pieces.specs.Finding.{list_path}
 use Rattle.jr_new_bodies.specs.Ready.{ExpReadyIn}
 use Rattle.jr_new_bodies.specs.Moves.{Goes}
 use Rattle.jr_new_bodies.specs.Effects.{Effect, no_effect, both, effect_of}
@@ -35,7 +36,7 @@ use Rattle.jr_extract_lists.specs.Targets.{IsTarget}
 use Rattle.jr_extract_lists.specs.Walked.{it, held, depth, in_initializer, AtStatement, IsMoved}
 use Rattle.jr_extract_lists.proofs.Places.{path_is}
 
-abbrev Anywhere : Span → ℕ → Type 0
+abbrev pub Anywhere : Span → ℕ → Type 0
 Anywhere m n = Unit {0}
 
 zero_plus : (n : ℕ) → 0 + n ≡ n
@@ -99,7 +100,7 @@ module _ (p : Program Span) (t : raw.Target) (x : IsTarget p t) where
     piece_ready ready =
         subst (λ (e : tree.Exp Span). ExpReadyIn itself Anywhere (rows_of h) h.bound.now h.from (context_of h) value t.path.now.steps.items base e) (sym x.value)
         (subst (λ (q : List ℕ). ExpReadyIn itself Anywhere (rows_of h) h.bound.now h.from (context_of h) value q base (it x).value) (sym (path_is p t x))
-        (subst (λ (w : Where). ExpReadyIn itself Anywhere w.rows w.bound w.from w.context value _ base (it x).value) (sym where_is) ((ready p x.program t.request.file t.request.from t.request.to t.request.name.now (it x)).piece base)))
+        (subst (λ (w : Where). ExpReadyIn itself Anywhere w.rows w.bound w.from w.context value (list_path x.chosen.code.front (it x).way) base (it x).value) (sym where_is) ((ready p x.program t.request.file t.request.from t.request.to t.request.name.now (it x)).piece base)))
 
     chooses_is : chooses_of h ≡ record { rows = p.rows; mapping = moved p.rows (in_initializer x); spots = no_spots; context = (at_value (it x)).context }
     chooses_is = λ i. record { rows = a.rows i; mapping = a.mapping i; spots = a.spots i; context = a.context i }

@@ -1,8 +1,9 @@
 -- Where walks are: at the statement, and there with the new local in scope.
-use Rattle.std.proofs.Common.{◌≡◌, ℕ, List, length, refl, sym, ap, subst, ◌∙◌}
+use Rattle.std.proofs.Common.{◌≡◌, ℕ, List, [], ◌∷◌, length, refl, sym, ap, subst, ◌∙◌}
 use Rattle.std.specs.Prelude.{Result, Ok, Err, IfOk, OnOk}
 use Rattle.std.proofs.lemmas.List.{length-map}
 use Rattle.jr_text.specs.declared.spans.Span.{Span}
+use Rattle.jr_ast.specs.declared.stmts.Stmt.{Stmt}
 use Rattle.jr_ast.specs.Tree as tree
 use Rattle.jr_ast.specs.StatementTree as statement
 use Rattle.jr_ast.specs.View.{stmts_of}
@@ -115,7 +116,15 @@ module _ (p : Program Span) (t : raw.Target) (x : IsTarget p t) where
 
 -- of some program
 pub known_tables : (t : raw.Target) → CanWalk t → AreTables t.body.tables
-known_tables t (p, x, h) = tables_are p t x
+known_tables t (p, (x, h)) = tables_are p t x
 
 pub known_statement : (t : raw.Target) → CanWalk t → HasStatement t
-known_statement t (p, x, h) = has_statement p t x
+known_statement t (p, (x, h)) = has_statement p t x
+
+-- a list with a statement is not empty
+empty : (l : List (Stmt Span)) → length l ≡ 0 → (s : statement.Stmt Span) (ss : statement.Stmts Span) → stmts_of l ≡ statement.more s ss → ⊥
+empty [] none s ss e = cc
+empty (x ∷ xs) none s ss e = cc
+
+pub no_statement : (t : raw.Target) → length t.list.now ≡ 0 → HasStatement t → ⊥
+no_statement t none (s, ss, e) = empty t.list.now none s ss e

@@ -1,15 +1,14 @@
 -- The spot of the expression, at which the name is put.
-use Rattle.std.proofs.Common.{◌≡◌, ℕ, List, [], ◌∷◌, true, false, Bool, refl, sym, ap, ◌∙◌}
-use Rattle.std.specs.Prelude.{nat_le}
+use Rattle.std.proofs.Common.{◌≡◌, ℕ, List, [], ◌∷◌, true, false, Bool, refl, ap, ◌∙◌}
+use Rattle.std.specs.Prelude.{nat_le, if◌then◌else◌}
 use Rattle.jr_text.specs.declared.spans.Span.{Span}
-use Rattle.jr_ast.specs.Marks.{exp_mark}
 use Rattle.jr_grammar.specs.Tokens.{word}
 use Rattle.jr_moved_texts.specs.Spaces.{spaced}
 use Rattle.jr_bind.specs.Programs.{Program}
-use Rattle.jr_new_bodies.specs.Spotting.{PartSpot, text_of}
+use Rattle.jr_new_bodies.specs.Spotting.{PartSpot}
 use Rattle.jr_extract_lists.specs.declared.targets.Target as raw
 use Rattle.jr_extract_lists.specs.Targets.{IsTarget}
-use Rattle.jr_extract_lists.specs.Walked.{PutsName, it}
+use Rattle.jr_extract_lists.specs.Walked.{PutsName}
 use Rattle.jr_extract_lists.proofs.Walking.{value_mark}
 
 -- however tightly what stands there binds

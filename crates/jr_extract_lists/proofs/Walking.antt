@@ -67,13 +67,13 @@ entered_is n c (statement.sync m e b) = refl
 entered_is n c (statement.empty m) = refl
 
 pub can_walk_piece : (t : raw.Target) (h : raw_here.Here) (r : Renumbering) → WalksPiece t h r → CanWalk t
-can_walk_piece t h r (p, x, begins, is) = (p, x, tt)
+can_walk_piece t h r (p, (x, (begins, is))) = (p, (x, tt))
 
 pub piece_known : (t : raw.Target) (h new : raw_here.Here) (r : Renumbering) (at : StatementPlace) → WalksPiece t h r → Comes t h new at → IsKnown new
-piece_known t h new r at (p, x, begins, is) comes = (comes p x (in_initializer x) begins).goes.known
+piece_known t h new r at (p, (x, (begins, is))) comes = (comes p x (in_initializer x) begins).goes.known
 
 pub piece_makes : (t : raw.Target) (h new : raw_here.Here) (r : Renumbering) (at : StatementPlace) → WalksPiece t h r → Comes t h new at → Makes (mapping_of new).locals r (length (context_of new).locals)
-piece_makes t h new r at (p, x, begins, is) comes =
+piece_makes t h new r at (p, (x, (begins, is))) comes =
     subst (λ (q : Renumbering). Makes (mapping_of new).locals q (length (context_of new).locals)) (sym is)
     (makes_there p t x (in_initializer x) (in_initializer x) h new at begins (comes p x (in_initializer x) begins) refl refl (length (context_of new).locals) refl refl)
 
@@ -86,33 +86,33 @@ module _ (holds : ElementsHoldIt Span) (t : raw.Target) (one two three four : ra
       at_piece p t x holds three four at.element.next s a (sym h.place.element_is.next) (first_is p t x s ss is) (subst (λ (c : Context). Goes three four c) (entered_is at.element.next (context_of three) s) goes)
 
   pub some_piece : WalksPiece t one r → (p : Program Span) × ((x : IsTarget p t) × AtPiece p t x four)
-  some_piece (p, x, begins, same) = (p, x, the_piece p x begins same)
+  some_piece (p, (x, (begins, same))) = (p, (x, the_piece p x begins same))
 
 -- ---- the list
 
 pub list_known : (t : raw.Target) (h new : raw_here.Here) (r : Renumbering) (ps : List PartSpot) (e : Effect) (at : StatementPlace) → WalksList t h r ps e → Comes t h new at → IsKnown new
-list_known t h new r ps e at (p, x, begins, is, puts, moves) comes = (comes p x (from_there x) begins).goes.known
+list_known t h new r ps e at (p, (x, (begins, is, puts, moves))) comes = (comes p x (from_there x) begins).goes.known
 
 pub list_makes : (t : raw.Target) (h new : raw_here.Here) (r : Renumbering) (ps : List PartSpot) (e : Effect) (at : StatementPlace) → WalksList t h r ps e → Comes t h new at → Makes (mapping_of new).locals r (length (context_of new).locals)
-list_makes t h new r ps e at (p, x, begins, is, puts, moves) comes =
+list_makes t h new r ps e at (p, (x, (begins, is, puts, moves))) comes =
     subst (λ (q : Renumbering). Makes (mapping_of new).locals q (length (context_of new).locals)) (sym is)
     (makes_there p t x (from_there x) (from_there x) h new at begins (comes p x (from_there x) begins) refl refl (length (context_of new).locals) refl refl)
 
 pub list_can : (t : raw.Target) (h : raw_here.Here) (r : Renumbering) (ps : List PartSpot) (e : Effect) → WalksList t h r ps e → CanWalk t
-list_can t h r ps e (p, x, begins, is, puts, moves) = (p, x, tt)
+list_can t h r ps e (p, (x, (begins, is, puts, moves))) = (p, (x, tt))
 
 pub list_type : (t : raw.Target) (h : raw_here.Here) (r : Renumbering) (ps : List PartSpot) (e : Effect) → WalksList t h r ps e → CanBeWritten (ty_of t.ty.now)
-list_type t h r ps e (p, x, begins, is, puts, moves) = type_can_be p t x
+list_type t h r ps e (p, (x, (begins, is, puts, moves))) = type_can_be p t x
 
 -- the statement begins in the text, and the expression can be cut out with what it becomes by
 module _ (fit : PiecesFit) (t : raw.Target) (h : raw_here.Here) (r : Renumbering) (ps : List PartSpot) (e : Effect) where
   pub list_begins : WalksList t h r ps e → (s : statement.Stmt Span) (ss : statement.Stmts Span) → stmts_of t.list.now ≡ statement.more s ss → (at : ℕ) → at ≡ (stmt_mark s).from → at ≤ length t.text.now
-  list_begins (p, x, begins, same, puts, moves) s ss is at at_is =
+  list_begins (p, (x, (begins, same, puts, moves))) s ss is at at_is =
       let it_fits = fit p x.program t.request.file t.request.from t.request.to t.request.name.now (it x) t.text.now t.items.now x.text x.lexes in
       subst (λ (k : ℕ). k ≤ length t.text.now) (sym (at_is ∙ ap (λ (y : statement.Stmt Span). (stmt_mark y).from) (first_is p t x s ss is))) it_fits.begins
 
   pub list_fits : WalksList t h r ps e → (cs : List Change) → cs ≡ e.changes → PieceFits t.text.now t.value.now.mark cs
-  list_fits (p, x, begins, same, puts, (o, moves, is)) cs cs_are =
+  list_fits (p, (x, (begins, same, puts, (o, moves, is)))) cs cs_are =
       let it_fits = fit p x.program t.request.file t.request.from t.request.to t.request.name.now (it x) t.text.now t.items.now x.text x.lexes in
       subst (λ (m : Span). PieceFits t.text.now m cs) (sym (value_mark p t x)) (subst (PieceFits t.text.now (exp_mark (it x).value)) (sym (cs_are ∙ ap (λ (y : Effect). y.changes) is)) (it_fits.piece o moves))
 
@@ -121,4 +121,4 @@ module _ (t : raw.Target) (one two three : raw_here.Here) (at : StatementPlace) 
   the_list p x begins same = at_statement p t x (from_there x) (from_there x) one two at begins (comes p x (from_there x) begins) refl refl three (subst (λ (q : Renumbering). IsMade two three q) same made)
 
   pub some_list : (ps : List PartSpot) (e : Effect) → WalksList t one r ps e → WalksStatements t at.element three ps
-  some_list ps e (p, x, begins, same, puts, moves) = (p, (x, the_list p x begins same, (comes p x (from_there x) begins).place.element_is, puts))
+  some_list ps e (p, (x, (begins, same, puts, moves))) = (p, (x, (the_list p x begins same, (comes p x (from_there x) begins).place.element_is, puts)))

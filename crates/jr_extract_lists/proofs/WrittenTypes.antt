@@ -1,8 +1,9 @@
 -- How a type is written: by what is chosen for its class.
-use Rattle.std.proofs.Common.{◌≡◌, ℕ, zero, suc, Bool, true, false, List, [], ◌∷◌, map, Option, Some, None, codes, sym, ap, subst, ◌∙◌, inl, inr}
-use Rattle.std.specs.Prelude.{slice_get, option_to_list}
-use Rattle.std.proofs.lemmas.List.{append_assoc}
-use Rattle.jr_table.specs.Keys.{ClassKey}
+use Rattle.std.proofs.Common.{◌≡◌, ℕ, zero, suc, Bool, true, false, List, [], ◌∷◌, length, ◌≤◌, map, Option, Some, None, codes, refl, sym, ap, subst, ◌∙◌, inl, inr, arith}
+use Rattle.std.specs.Prelude.{slice_get, if◌then◌else◌}
+use Rattle.jr_ast.specs.Tree as tree
+use Rattle.jr_grammar.specs.Layout.{itself}
+use Rattle.jr_table.specs.Keys.{ClassKey, int, boolean, class}
 use Rattle.jr_table.specs.Decls.{class_decl}
 use Rattle.jr_table.specs.Rows.{Row}
 use Rattle.jr_table.specs.Context.{Context}
@@ -10,13 +11,16 @@ use Rattle.jr_spell.specs.declared.references.RefForm.TheVariants as ref
 use Rattle.jr_spell.specs.declared.spellings.Form.{Form}
 use Rattle.jr_spell.specs.Spellings.{forms}
 use Rattle.jr_rewrite.specs.Respellings.{Front, same, alone, by_this, by_super, by_cast_this, by_class, by_outer_class, by_cast, Respelling, Choice, stays, becomes, loses}
-use Rattle.jr_images.specs.Spelling.{same_name, respelled, spelled, outer_type}
+use Rattle.jr_rewrite.specs.Rewritten.{plain, simple_type_out}
+use Rattle.jr_table.specs.SameKeys.{same_name}
+use Rattle.jr_images.specs.Spelling.{respelled, spelled, outer_type}
 use Rattle.jr_new_words.specs.declared.choices.Lost as raw_lost
 use Rattle.jr_new_words.specs.ChoiceView.{lost_of}
 use Rattle.jr_new_words.specs.Mappings.{Mapping}
 use Rattle.jr_new_words.specs.Ways.{MakesType}
+use Rattle.jr_local.specs.Extracted.{word_of}
 use Rattle.jr_extract_lists.specs.declared.written_types.WrittenType as raw
-use Rattle.jr_extract_lists.specs.WrittenTypes.{IsAsIs, IsRespelled, IsTypeFront, SpellsType, IsOfChoice}
+use Rattle.jr_extract_lists.specs.WrittenTypes.{IsAsIs, IsRespelled, IsTypeFront, SpellsType, IsOfChoice, IsWritten}
 
 some_is : {X : Type 0} {x y : X} → (let a : Option X = Some x in a ≡ Some y) → x ≡ y
 some_is e = cc
@@ -50,22 +54,33 @@ made_spells rows g c at k h (inr (none, (f, finds, is))) = subst SpellsType (sym
 -- ---- what is written
 
 -- the losses of one
-lost_one : (l : raw_lost.Lost) (o : Option raw_lost.Lost) → o ≡ Some l → map lost_of (option_to_list o) ≡ lost_of l ∷ []
-lost_one l o e = ap (λ (x : Option raw_lost.Lost). map lost_of (option_to_list x)) e
+module _ (ls : List raw_lost.Lost) where
+  lost_one : (l : raw_lost.Lost) → ls ≡ l ∷ [] → map lost_of ls ≡ lost_of l ∷ []
+  lost_one l e = ap (map lost_of) e
 
-lost_none : (o : Option raw_lost.Lost) → o ≡ None → map lost_of (option_to_list o) ≡ []
-lost_none o e = ap (λ (x : Option raw_lost.Lost). map lost_of (option_to_list x)) e
+  lost_none : ls ≡ [] → map lost_of ls ≡ []
+  lost_none e = ap (map lost_of) e
 
-pub stays_so : (k : ClassKey) (w : raw.WrittenType) → IsAsIs k.name None w → IsOfChoice k stays w
-stays_so k w (text, count, lost) m = record { text = text; respelled = count; losses = lost_none w.lost lost }
+  one_few : (l : raw_lost.Lost) → ls ≡ l ∷ [] → length ls ≤ 1
+  one_few l e = let n : length ls ≡ 1 = ap length e in omega (arith, n)
 
-pub loses_so : (k : ClassKey) (l : raw_lost.Lost) (w : raw.WrittenType) → IsAsIs k.name (Some l) w → IsOfChoice k (loses (lost_of l)) w
-loses_so k l w (text, count, lost) m = record { text = text; respelled = count; losses = lost_one l w.lost lost }
+  none_few : ls ≡ [] → length ls ≤ 1
+  none_few e = let n : length ls ≡ 0 = ap length e in omega (arith, n)
+
+-- in other words
+pub as_is_so : (text : List ℕ) (ls : List raw_lost.Lost) (w : raw.WrittenType) (new : List ℕ) (now : List raw_lost.Lost) → text ≡ new → ls ≡ now → IsAsIs text ls w → IsAsIs new now w
+as_is_so text ls w new now one two (a, b, c) = (a ∙ one, b, c ∙ two)
+
+pub stays_so : (k : ClassKey) (w : raw.WrittenType) → IsAsIs k.name [] w → IsOfChoice k stays w
+stays_so k w (text, count, lost) m = record { text = text; respelled = count; losses = lost_none w.losses.items lost; few = none_few w.losses.items lost }
+
+pub loses_so : (k : ClassKey) (l : raw_lost.Lost) (w : raw.WrittenType) → IsAsIs k.name (l ∷ []) w → IsOfChoice k (loses (lost_of l)) w
+loses_so k l w (text, count, lost) m = record { text = text; respelled = count; losses = lost_one w.losses.items l lost; few = one_few w.losses.items l lost }
 
 becomes_so : (f : Front) → IsTypeFront f → (text : List ℕ) (k : ClassKey) (w : raw.WrittenType) → IsRespelled (record { text = text; front = f }) w → IsOfChoice k (becomes (record { text = text; front = f })) w
-becomes_so same is text k w (as_text, count, lost) m = record { text = as_text; respelled = count; losses = lost_none w.lost lost }
-becomes_so alone is text k w (as_text, count, lost) m = record { text = as_text; respelled = count; losses = lost_none w.lost lost }
-becomes_so (by_class o) is text k w (as_text, count, lost) m = record { text = as_text ∙ append_assoc o (codes ".") text; respelled = count; losses = lost_none w.lost lost }
+becomes_so same is text k w (as_text, count, lost) m = record { text = as_text; respelled = count; losses = lost_none w.losses.items lost; few = none_few w.losses.items lost }
+becomes_so alone is text k w (as_text, count, lost) m = record { text = as_text; respelled = count; losses = lost_none w.losses.items lost; few = none_few w.losses.items lost }
+becomes_so (by_class o) is text k w (as_text, count, lost) m = record { text = as_text; respelled = count; losses = lost_none w.losses.items lost; few = none_few w.losses.items lost }
 becomes_so by_this is text k w h m = absurd is
 becomes_so by_super is text k w h m = absurd is
 becomes_so (by_cast_this q) is text k w h m = absurd is
@@ -74,3 +89,15 @@ becomes_so (by_cast q) is text k w h m = absurd is
 
 pub respelled_so : (r : Respelling) → IsTypeFront r.front → (k : ClassKey) (w : raw.WrittenType) → IsRespelled r w → IsOfChoice k (becomes r) w
 respelled_so r is k w h = becomes_so r.front is r.text k w h
+
+-- ---- of each type
+
+module _ (rows : List Row) (g : Mapping) (c : Context) (at : ℕ) (w : raw.WrittenType) where
+  pub int_so : IsAsIs (codes "int") [] w → IsWritten rows g c at int w
+  int_so (text, count, lost) m = (plain (tree.int m), refl, record { text = text; respelled = count; losses = lost_none w.losses.items lost; few = none_few w.losses.items lost })
+
+  pub boolean_so : IsAsIs (codes "boolean") [] w → IsWritten rows g c at boolean w
+  boolean_so (text, count, lost) m = (plain (tree.boolean m), refl, record { text = text; respelled = count; losses = lost_none w.losses.items lost; few = none_few w.losses.items lost })
+
+  pub class_so : (k : ClassKey) (h : Choice) → MakesType rows g c at k h → IsOfChoice k h w → IsWritten rows g c at (class k) w
+  class_so k h made tells m = (simple_type_out itself h m 0 (word_of m k.name), (h, made, refl), tells m)

@@ -275,7 +275,8 @@ module _ (t : raw.Target) where
 
   -- from the statement on
   abbrev pub WalksStatements : ElementPlace → raw_here.Here → List PartSpot → Type 0
-  WalksStatements at h ps = Known (λ p x. AtStatement x (from_there x) h × IsElement x at × PutsName x ps)
+  WalksStatements at h ps =
+      Known (λ p x. AtStatement x (from_there x) h × IsElement x at × PutsName x ps)
 
   -- behind the statement
   abbrev pub WalksRest : ElementPlace → raw_here.Here → (n : ℕ) → Type 0

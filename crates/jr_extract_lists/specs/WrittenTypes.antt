@@ -5,9 +5,9 @@ use Rattle.std.specs.Prelude.{
   List,
   ◌++◌,
   map,
-  Option,
-  None,
-  option_to_list,
+  [],
+  length,
+  ◌≤◌,
   string_bytes,
 }
 use Rattle.jr_text.specs.declared.spans.Span.{Span}
@@ -54,16 +54,18 @@ CanBeWritten (class k) = Unit {0}
 pub record Tells (o : Rewritten (tree.TypeName Span)) (w : raw.WrittenType) : Type 0 where
   pub text : string_bytes w.text ≡ printed_type o.tree
   pub respelled : w.respelled ≡ o.respelled
-  pub losses : map lost_of (option_to_list w.lost) ≡ o.losses
+  pub losses : map lost_of w.losses.items ≡ o.losses
+  pub few : length w.losses.items ≤ 1
 
 -- it has this text, and nothing is respelled
-abbrev pub IsAsIs : List ℕ → Option raw_lost.Lost → raw.WrittenType → Type 0
-IsAsIs text lost w = (string_bytes w.text ≡ text) × (w.respelled ≡ 0) × (w.lost ≡ lost)
+abbrev pub IsAsIs : List ℕ → List raw_lost.Lost → raw.WrittenType → Type 0
+IsAsIs text losses w =
+    (string_bytes w.text ≡ text) × (w.respelled ≡ 0) × (w.losses.items ≡ losses)
 
 -- it has the front and the word, which is respelled where that has a front of its own
 abbrev pub IsRespelled : Respelling → raw.WrittenType → Type 0
 IsRespelled r w = (string_bytes w.text ≡ front_text r.front ++ r.text)
-    × (w.respelled ≡ count_of (becomes r)) × (w.lost ≡ None)
+    × (w.respelled ≡ count_of (becomes r)) × (w.losses.items ≡ [])
 
 -- ---- what is chosen for a class as a type
 

@@ -4,10 +4,12 @@
 //!
 //! `targets`: what is extracted, with all that is known of it (`specs/Targets`). `written_types`:
 //! how the type is written (`specs/WrittenTypes`). `texts`: the name in the expression's place, and
-//! the declaration (`specs/Texts`). `walks`: what becomes of the expression, of its statement and of
-//! those behind it, each in a place of its own (`specs/Walked`).
+//! the declaration (`specs/Texts`). `walks`: what becomes of the expression, of its statement and
+//! of those behind it, each in a place of its own (`specs/Walked`). `starts`: what is gathered in
+//! front of the statement.
 #![tactic(auto)]
 
+mod starts;
 mod targets;
 mod texts;
 mod walks;

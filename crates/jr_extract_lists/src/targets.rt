@@ -97,7 +97,8 @@ pub fn target_of<'a, V: View<Span>>(
         (chosen_of selected.now) }
     requires found { IsFound (V.program view.now) request.file request.from request.to
         request.name.now (chosen_of selected.now) number }
-    ensures { IsTarget (V.program view.now) result }
+    ensures target { IsTarget (V.program view.now) result }
+    ensures request { result.request ≡ request.entry }
 {
     view.keeps_program();
     let table = view.table();

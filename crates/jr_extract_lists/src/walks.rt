@@ -5,7 +5,6 @@ ghost use Rattle.jr_text.specs.declared.spans.Span as spans;
 ghost use Rattle.jr_ast.specs.StatementTree as statement;
 ghost use Rattle.jr_ast.specs.View.{stmt_of, stmts_of};
 ghost use Rattle.jr_bind.specs.Programs.{Program};
-ghost use Rattle.jr_rewrite.specs.ChangeView.{change_of};
 ghost use Rattle.jr_new_words.specs.Mappings.{Renumbering as Numbers};
 ghost use Rattle.jr_new_words.specs.MappingView.{made_of, renumbering_of};
 ghost use Rattle.jr_new_words.specs.Scopes.{Makes};
@@ -31,10 +30,11 @@ ghost use Rattle.jr_extract_lists.specs.Walked.{
   in_initializer,
 };
 
+use crate::starts::{begin_list, single};
 use crate::targets::Target;
 use crate::texts::{declaration, name_text};
 use crate::written_types::{WrittenType, written_type};
-use jr_ast::Stmt;
+use jr_ast::{Param, Stmt};
 use jr_local_changes::pieces_fit;
 use jr_local_parts::{
     ElementPlace, begin_body, enter, forget_here, go_to_element, kept_numbers, path_to, with_gone,
@@ -46,7 +46,6 @@ use jr_new_bodies::{
     Here, Output, PartSpot, Spots, new_output, next as number_behind, piece, stmt, stmts,
 };
 use jr_new_words::{Lost, MadeLocal, Renumbering};
-use jr_rewrite::Change;
 use jr_text::Span;
 use std::alloc::{AllocError, Global};
 
@@ -135,19 +134,26 @@ fn statement_of<'a>(of: &Target<'a>) -> (&'a Stmt<Span>, &'a [Stmt<Span>])
         (stmts_of result.1.now) }
 {
     match of.list.split_first() {
-        Some(parts) => parts,
+        Some((first, rest)) => (first, rest),
         None => unreachable!(),
     }
 }
 
-/// The first local that is no parameter. More parameters than numbers don't fit any memory.
-fn first_local(of: &Target<'_>) -> Result<u32, AllocError>
-    ensures { IfOk result (λ n. n ≡ pure.first_local of.now) }
+/// How many parameters these are. More than numbers don't fit any memory.
+fn count_params(params: &[Param<Span>]) -> Result<u32, AllocError>
+    ensures { IfOk result (λ n. n ≡ length params.now) }
 {
-    match u32::try_from(of.body.code.params.len()) {
+    match u32::try_from(params.len()) {
         Err(_) => Err(AllocError),
         Ok(count) => Ok(count),
     }
+}
+
+/// The first local that is no parameter.
+fn first_local(of: &Target<'_>) -> Result<u32, AllocError>
+    ensures { IfOk result (λ n. n ≡ pure.first_local of.now) }
+{
+    count_params(of.body.code.params)
 }
 
 fn go<'a>(here: &mut Here<'a>, of: &Target<'a>) -> Result<StatementPlace, AllocError>
@@ -255,34 +261,6 @@ pub fn piece_output(
 
 // ---- the list
 
-/// What is gathered in front of the statement: the declaration, with what its type and its
-/// initializer respell, and what the initializer loses.
-fn begin_list(
-    alloc: Global,
-    put: Change,
-    respelled: u64,
-    piece: Output,
-) -> Result<Output, AllocError>
-    ensures { IfOk result (λ out. gathered out ≡ pure.put_in_front
-        (change_of put) respelled (gathered piece)) }
-{
-    let Output {
-        changes: _,
-        respelled: more,
-        losses,
-    } = piece;
-    let mut changes = Vec::new(alloc);
-    changes.push(put)?;
-    match respelled.checked_add(more) {
-        None => Err(AllocError),
-        Some(respelled) => Ok(Output {
-            changes,
-            respelled,
-            losses,
-        }),
-    }
-}
-
 /// Which expressions are rewritten in their own way from here on.
 fn set_spots<'a>(here: &mut Here<'a>, spots: Spots<'a>)
     ensures { here.new ≡ pure.with_spots here.old spots.entry }
@@ -388,11 +366,14 @@ fn walk_list<'a>(
     let WrittenType {
         text: _,
         respelled,
-        lost,
+        losses,
     } = ty;
     let mut out = begin_list(alloc, put, respelled, piece)?;
     walk_statements(alloc, of, &at.element, here, inside.spots, &mut out)?;
-    Ok(ListOutput { out, lost })
+    Ok(ListOutput {
+        out,
+        lost: single(losses),
+    })
 }
 
 /// The same, from where the body begins.

@@ -1,5 +1,6 @@
 //! How the type of the new local is written (JLS 4.1, 6.5.5).
-ghost use Rattle.std.specs.Prelude.{◌≡◌, IfOk, if◌then◌else◌};
+ghost use Rattle.std.specs.Prelude.{◌≡◌, ◌∷◌, [], IfOk, if◌then◌else◌};
+ghost use Rattle.jr_table.specs.Keys as keys;
 ghost use Rattle.jr_table.specs.TypeView.{class_key_of, ty_of};
 ghost use Rattle.jr_rewrite.specs.Respellings.{is_respelled};
 ghost use Rattle.jr_rewrite.specs.RespellingView.{front_view};
@@ -26,18 +27,34 @@ use std::alloc::{AllocError, Global};
 pub(crate) struct WrittenType {
     pub text: String,
     pub respelled: u64,
-    pub lost: Option<Lost>,
+    pub losses: Vec<Lost>,
 }
 
-fn as_is(alloc: Global, text: &str, lost: Option<Lost>) -> Result<WrittenType, AllocError>
-    ensures { IfOk result (IsAsIs text.now lost) }
+fn as_is(alloc: Global, text: &str, losses: Vec<Lost>) -> Result<WrittenType, AllocError>
+    ensures { IfOk result (IsAsIs text.now losses.items) }
 {
     let text = String::from_str(alloc, text)?;
     Ok(WrittenType {
         text,
         respelled: 0,
-        lost,
+        losses,
     })
+}
+
+/// This loss alone.
+fn one_loss(alloc: Global, lost: Lost) -> Result<Vec<Lost>, AllocError>
+    ensures { IfOk result (λ v. v.items ≡ lost ∷ []) }
+{
+    let mut losses = Vec::new(alloc);
+    losses.push(lost)?;
+    Ok(losses)
+}
+
+fn as_lost(alloc: Global, text: &str, lost: Lost) -> Result<WrittenType, AllocError>
+    ensures { IfOk result (IsAsIs text.now (lost ∷ [])) }
+{
+    let losses = one_loss(alloc, lost)?;
+    as_is(alloc, text, losses)
 }
 
 /// Whether a word with this in front of it is respelled, as a number.
@@ -55,7 +72,7 @@ fn respelled(alloc: Global, chosen: &Chosen) -> Result<WrittenType, AllocError>
     Ok(WrittenType {
         text,
         respelled: count_of(&to.front),
-        lost: None,
+        losses: Vec::new(alloc),
     })
 }
 
@@ -65,10 +82,25 @@ fn by_choice(alloc: Global, class: &ClassKey, choice: Choice) -> Result<WrittenT
     ensures { IfOk result (IsOfChoice (class_key_of class.now) (choice_of choice)) }
 {
     match choice {
-        Choice::Stays => as_is(alloc, class.name.as_str(), None),
+        Choice::Stays => as_is(alloc, class.name.as_str(), Vec::new(alloc)),
         Choice::Becomes(chosen) => respelled(alloc, &chosen),
-        Choice::Loses(lost) => as_is(alloc, class.name.as_str(), Some(lost)),
+        Choice::Loses(lost) => as_lost(alloc, class.name.as_str(), lost),
     }
+}
+
+/// A class as it is written at a place.
+fn class_type(
+    alloc: Global,
+    here: &Here<'_>,
+    at: u32,
+    class: &ClassKey,
+) -> Result<WrittenType, AllocError>
+    requires { IsKnown here.now }
+    ensures { IfOk result (IsWritten (rows_of here.now) (mapping_of here.now)
+        (context_of here.now) at (keys.class (class_key_of class.now))) }
+{
+    let choice = made_type(alloc, &here.scopes, at, class)?;
+    by_choice(alloc, class, choice)
 }
 
 /// A type as it is written at a place: `int`, `boolean`, or a class by its name, behind that of the
@@ -87,13 +119,10 @@ pub(crate) fn written_type(
         (context_of here.now) at (ty_of ty.now)) }
 {
     match ty {
-        Ty::Int => as_is(alloc, "int", None),
-        Ty::Boolean => as_is(alloc, "boolean", None),
+        Ty::Int => as_is(alloc, "int", Vec::new(alloc)),
+        Ty::Boolean => as_is(alloc, "boolean", Vec::new(alloc)),
         Ty::Void => unreachable!(),
         Ty::Null => unreachable!(),
-        Ty::Class(class) => {
-            let choice = made_type(alloc, &here.scopes, at, class)?;
-            by_choice(alloc, class, choice)
-        }
+        Ty::Class(class) => class_type(alloc, here, at, class),
     }
 }

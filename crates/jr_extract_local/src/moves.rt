@@ -5,21 +5,24 @@ ghost use Rattle.jr_bind.specs.Programs.{Program};
 ghost use Rattle.jr_names.specs.SiteView.{pair_of};
 ghost use Rattle.jr_extract_lists.specs.Targets.{IsTarget};
 ghost use Rattle.jr_extract_lists.specs.Walked.{HasPlace, IsPlaceOf};
-ghost use Rattle.jr_extract_local.specs.Moves.{AreInFront, AreOwn, IsLost};
+ghost use Rattle.jr_extract_local.specs.Moves.{AreInFront, IsLost};
 
-use jr_extract_lists::Target;
-use jr_extract_lists::StatementPlace;
+use jr_extract_lists::{StatementPlace, Target};
+use jr_local_crossings::extracts_lose;
+use jr_local_footprints::own_flags_tell;
 use jr_local_parts::{lost_pair, path_behind, path_to};
 use jr_member_graphs::own_flags;
+use jr_members::members_are_written;
 use jr_names::DepPair;
 use jr_new_bodies::next;
 use jr_piece_sites::{footprint, footprint_of, sites_before};
 use jr_sites::PlacedSite;
 use jr_table::Table;
+use jr_text::Span;
 use std::alloc::{AllocError, Global};
 
 /// The sites of the statement that are evaluated before the expression (JLS 15.7): the first ones
-/// of its sites, as many as stand in front of the expression's.
+/// of its sites, as many as stand in front of the expression's. The only fault is want of memory.
 fn sites_in_front(
     alloc: Global,
     table: &Table,
@@ -27,10 +30,10 @@ fn sites_in_front(
     at: &StatementPlace,
     never_null: &[bool],
 ) -> Result<Vec<PlacedSite>, AllocError>
-    requires own { AreOwn table.now of.now never_null.now }
-    requires at { HasPlace of.now at.now }
-    ensures { (p : Program spans.Span) → (x : IsTarget p of.now) → IsPlaceOf x at.now
-        → IfOk result (λ sites. AreInFront x sites.items) }
+    requires { HasPlace of.now at.now }
+    ensures { (p : Program spans.Span) → (x : IsTarget p of.now) → p.rows ≡ table.now
+        → (h : IsPlaceOf x at.now)
+        → IfOk result (λ sites. AreInFront x h never_null.now sites.items) }
 {
     let facts = of.body.bound;
     let step = at.element.step;
@@ -41,11 +44,12 @@ fn sites_in_front(
     let count = sites_before(
         alloc, table, of.member, 0, &outer, &inner, facts, never_null,
     )?;
-    let mut sites = footprint_of(
+    let sites = footprint_of(
         alloc, table, of.member, 0, &around, step, behind, facts, never_null,
     )?;
-    sites.truncate(count as usize);
-    Ok(sites)
+    let mut front = sites;
+    front.truncate(count as usize);
+    Ok(front)
 }
 
 /// The pair that is lost (refusal 18): a site that the statement evaluates before the expression,
@@ -61,9 +65,13 @@ pub(crate) fn lost_dependence(
     ensures { (p : Program spans.Span) → (x : IsTarget p of.now) → p.rows ≡ table.now
         → IsPlaceOf x at.now → IfOk result (λ o. IsLost x (option_map pair_of o)) }
 {
+    members_are_written::<Span>();
+    own_flags_tell();
+    extracts_lose();
     let facts = of.body.bound;
     let flags = own_flags(alloc, table, of.member, 0, facts)?;
-    let before = sites_in_front(alloc, table, of, at, flags.as_slice())?;
-    let moved = footprint(alloc, table, of.member, 0, of.path, facts, flags.as_slice())?;
+    let never_null = flags.as_slice();
+    let before = sites_in_front(alloc, table, of, at, never_null)?;
+    let moved = footprint(alloc, table, of.member, 0, of.path, facts, never_null)?;
     lost_pair(alloc, of.request.file, of.body.from, before, moved)
 }

@@ -15,8 +15,8 @@ bound-facts-requires g c =
 pub member_in-member-requires : goal.member_in-member-requires
 member_in-member-requires g c = c.requires.written.is_member
 
-pub returns : goal.returns
-returns g c =
+pub returns-clause-target : goal.returns-clause-target
+returns-clause-target g c =
     let p = g.V.View.program c.args.view.now in
     let of = c.args.request in
     record {
@@ -40,3 +40,6 @@ returns g c =
       text = text_is p of.file c.text-text.result.now c.requires.file c.text-text.ensures;
       lexes = lexes_are p of.file c.text-text.result.now c.items-items.result.now c.requires.file c.text-text.ensures c.items-items.ensures;
     }
+
+pub returns-clause-request : goal.returns-clause-request
+returns-clause-request g c = refl

@@ -3,12 +3,11 @@ use Rattle.std.proofs.lemmas.Result.{IfOk-weaker}
 use Rattle.jr_new_words.specs.Mappings.{Renumbering}
 use Rattle.jr_new_words.specs.MappingView.{renumbering_of}
 use Rattle.jr_local_parts.specs.Begun.{BeginsBody}
-use Rattle.jr_extract_lists.specs.Walked.{bare}
 use Rattle.jr_extract_lists.proofs.Places.{known_tables}
 use Rattle.jr_extract_lists.proofs.walks.find_statement.Goals as goal
 
-pub begin_body-here-requires : goal.begin_body-here-requires
-begin_body-here-requires c = record {
+pub begin_body-requires : goal.begin_body-requires
+begin_body-requires c = record {
   tables = known_tables c.args.of.now c.requires;
   bare = (ap (λ (r : Renumbering). r.made) c.renumbered-numbers.ensures, ap (λ (r : Renumbering). r.depth) c.renumbered-numbers.ensures);
 }

@@ -6,8 +6,8 @@ use Rattle.jr_extract_lists.proofs.Numbers.{frames_piece_can, frames_piece_bare,
 use Rattle.jr_extract_lists.proofs.Places.{known_tables}
 use Rattle.jr_extract_lists.proofs.walks.piece_by.Goals as goal
 
-pub begin_body-here-requires : goal.begin_body-here-requires
-begin_body-here-requires c =
+pub begin_body-requires : goal.begin_body-requires
+begin_body-requires c =
     let t = c.args.of.now in
     let o = renumbering_of c.args.frames.now.outer in
     let r = renumbering_of c.args.frames.now.inner in

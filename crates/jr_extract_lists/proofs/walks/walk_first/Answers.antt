@@ -8,8 +8,8 @@ use Rattle.jr_extract_lists.proofs.Places.{known_statement}
 use Rattle.jr_extract_lists.proofs.Passing.{statements_can, statements_deep, first_may, first_passes}
 use Rattle.jr_extract_lists.proofs.walks.walk_first.Goals as goal
 
-pub path_to-path-requires : goal.path_to-path-requires
-path_to-path-requires c = statements_deep c.selected_are_ready.ensures c.args.of.now c.args.at.now c.args.here.now (map part_of c.args.spots.now) c.requires.walks
+pub path_to-requires : goal.path_to-requires
+path_to-requires c = statements_deep c.selected_are_ready.ensures c.args.of.now c.args.at.now c.args.here.now (map part_of c.args.spots.now) c.requires.walks
 
 pub statement_of-requires : goal.statement_of-requires
 statement_of-requires c = known_statement c.args.of.now (statements_can c.args.of.now c.args.at.now c.args.here.now (map part_of c.args.spots.now) c.requires.walks)
