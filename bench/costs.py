@@ -131,7 +131,7 @@ def table():
     for name in sorted(known, key=lambda it: -sum(costs[it][:3])):
         proof, tests, edits, functions = costs[name]
         each = f"{proof / functions:.1f}" if functions else ""
-        if proof + tests + edits < 60:
+        if proof + tests + edits < 100:
             small.append(name)
         else:
             rows.append(f"|{name}|{functions or ''}|{proof}|{each}|{tests or ''}|{edits or ''}|{edits_of(name) or ''}|")

@@ -90,6 +90,13 @@ def examples(program):
         got = answer(program, ["rename", "A.java", at, name], {"A.java": text})
         if got != wanted:
             yield f"GUIDE: rename {at} {name} of {text}: {got}"
+    moves = re.findall(r"^\| `(class [^`]*)` \| `(\d+) (\d+) (\S+)` \| (\d+) `(.*)` \|$", page, re.MULTILINE)
+    for text, start, end, name, number, wanted in moves:
+        step = {"step": "extract_local", "file": "A.java", "from": int(start), "to": int(end), "name": name}
+        files = {"A.java": text, "s.json": json.dumps([step])}
+        got = json.loads(answer(program, ["run", "s.json", "A.java"], files))[0]
+        if (got.get("number"), got.get("refusal")) != (int(number), wanted):
+            yield f"GUIDE: extract_local {start} {end} {name} of {text}: {got}"
     box = re.search(r"^    (class Box.*)$", page, re.MULTILINE)[1]
     script = '[{"step":"show","file":"Box.java","what":"dependences"}]'
     files = {"Box.java": box, "s.json": script}
@@ -97,8 +104,8 @@ def examples(program):
     wanted = re.findall(r"^\| `(Box\.\S+ \w+ \d+ \d+)` \|", page, re.MULTILINE)
     if lines != wanted:
         yield f"GUIDE: dependences of Box.java: {lines}"
-    if len(rows) < 13 or len(wanted) < 13:
-        yield f"GUIDE: {len(rows)} renames and {len(wanted)} dependences are too few"
+    if len(rows) < 13 or len(moves) < 6 or len(wanted) < 13:
+        yield f"GUIDE: {len(rows)} renames, {len(moves)} extractions, {len(wanted)} dependences are too few"
 
 
 def main():
