@@ -369,7 +369,7 @@ class Spelling(Binding):
         else:
             old = self.value_found(place, e)
         decl, chain = old[1], self.chain(place, e.on)
-        text, key = self.word(decl, e.name.text), self.to.cls(decl[1])
+        text, key = self.word(decl, e.name.text), self.to.decl(decl)[1]
         front = self.words_find(new, self.front_texts(chain))
         by_class = front[0] == "one" and front[1][0] == "class"
         of = front[1][1] if by_class else self.new.found_type(new, front)
