@@ -1,0 +1,2 @@
+pub mod MovedReferences
+pub mod FileReferences
